@@ -1,0 +1,127 @@
+-- `lexer::layout::consume_layout` meets its contract. Assumes nothing.
+use Prim.Native.Nat.{ℕ, _+_, _<_}
+use mathlib.Core.Path.{_≡_, refl, sym, _∙_, ap}
+use mathlib.Core.List.{List}
+use native.Mathlib.Omega.{arith}
+use borrow.Author.Needs.{needs}
+use borrow.Author.Tests.{ne-eqb}
+use lib.ListN.{length}
+use Rattle.lexer.specs.Chars.{classOf, layoutChar, percent, slash}
+use Rattle.lexer.specs.Cursor.{step, Valid, Movable}
+use Rattle.lexer.specs.Layout.{singleLineComment, slashed, layoutTextOf, layoutText, moved, Slash}
+use Rattle.lexer.specs.Look.{lookahead}
+use Rattle.lexer.specs.declared.refusal.Fault.{Fault}
+use Rattle.lexer.specs.declared.chars.Look.{Look}
+use Rattle.lexer.specs.declared.cursor.Cursor.{Cursor}
+use Rattle.lexer.specs.declared.cursor.Moved.{Moved}
+use Rattle.lexer.proofs.Cursors.{movable, step-valid, move-here, move-step}
+use Rattle.lexer.proofs.Layouts.{line-ends}
+use Rattle.lexer.proofs.Looks.{Seen, look-byte}
+use Rattle.lexer.proofs.Scans.{moved-step}
+use Rattle.lexer.proofs.layout.consume_layout.Statement.{statement}
+use Rattle.lexer.proofs.layout.consume_layout.Tie as tie
+
+-- the ways out, over plain values: r is what stands at the cursor
+module _ (s : List ℕ) (c : Cursor) (r : Look) (e : r ≡ lookahead s (c .offset)) where
+  refused : (f : Fault) → r ≡ Look.Refused f → Moved.Refused f ≡ moved s c (layoutText s (c .offset))
+  unfolding layoutTextOf moved
+  refused f q = cc
+
+  module _ (b : ℕ) (q : r ≡ Look.Byte b) where
+    seen : Seen s (c .offset) b
+    seen = look-byte s (c .offset) b (sym e ∙ q)
+
+    module _ (v : Valid (length s) c) where
+      can-skip : Movable c
+      can-skip = movable (length s) c v (seen .inside)
+
+      in-comment : (d : Cursor) → d ≡ step c b → Valid (length s) d
+      in-comment d m = rw m (step-valid (length s) c v b (seen .inside))
+
+      at-slash : b ≡ slash → Slash s c
+      at-slash n = record { valid = v; slash-there = sym e ∙ q ∙ ap Look.Byte n }
+
+    module _ (k : ℕ) (g : k ≡ classOf b) where
+      blank : (d : Cursor) → k ≡ layoutChar → d ≡ step c b → Moved.To d ≡ moved s c (layoutText s (c .offset))
+      unfolding layoutTextOf moved
+      blank d n m =
+          let l = seen in
+          cc (move-step s c (c .offset + 1) (omega arith) (omega (arith, l .inside)), move-here s (step c b))
+
+      module _ (n : k ≡ layoutChar → ⊥) where
+        line : (d : Cursor) (z : Moved) → b ≡ percent → d ≡ step c b → z ≡ moved s d (singleLineComment s (d .offset)) → z ≡ moved s c (layoutText s (c .offset))
+        unfolding layoutTextOf
+        line d z p m f =
+            let l = seen in
+            let t : layoutText s (c .offset) ≡ singleLineComment s (c .offset + 1) = cc (ne-eqb k layoutChar n) in
+            let u = moved-step s c (l .inside) (singleLineComment s (c .offset + 1)) (line-ends s (c .offset + 1) (omega (arith, l .inside))) in
+            f ∙ ap (λ (x : Cursor). moved s x (singleLineComment s (x .offset))) m
+            ∙ ap (λ (x : ℕ). moved s (step c x) (singleLineComment s (c .offset + 1))) (sym (l .it)) ∙ sym u ∙ ap (moved s c) (sym t)
+
+        comment : (z : Moved) → b ≡ slash → z ≡ moved s c (slashed s (c .offset) (lookahead s (c .offset + 1))) → z ≡ moved s c (layoutText s (c .offset))
+        unfolding layoutTextOf
+        comment z p f = cc (ne-eqb k layoutChar n)
+
+        none : (b ≡ percent → ⊥) → (b ≡ slash → ⊥) → Moved.To c ≡ moved s c (layoutText s (c .offset))
+        unfolding layoutTextOf moved
+        none o p = cc (ne-eqb k layoutChar n, ne-eqb b percent o, ne-eqb b slash p, move-here s c)
+
+ruleset ways = (refused, can-skip, in-comment, at-slash, blank, line, comment, none, needs)
+
+-- answers
+lookahead-char-requires : tie.Need-lookahead-char-requires
+lookahead-char-requires c κs = search ways
+
+enum-known-fault : tie.Need-enum-known-fault
+enum-known-fault c = search ways
+
+enum-known-b : tie.Need-enum-known-b
+enum-known-b c = search ways
+
+class-requires : tie.Need-class-requires
+class-requires c κs = search ways
+
+skip-char-requires : tie.Need-skip-char-requires
+skip-char-requires c κs = search ways
+
+returns : tie.Need-returns
+returns c = search ways
+
+skip-char-requires-2 : tie.Need-skip-char-requires-2
+skip-char-requires-2 c κs = search ways
+
+single-line-comment-requires : tie.Need-single-line-comment-requires
+single-line-comment-requires c κs = search ways
+
+slash-text-requires : tie.Need-slash-text-requires
+slash-text-requires c κs = search ways
+
+returns-2 : tie.Need-returns-2
+returns-2 c = search ways
+
+returns-3 : tie.Need-returns-3
+returns-3 c = search ways
+
+returns-4 : tie.Need-returns-4
+returns-4 c = search ways
+
+returns-5 : tie.Need-returns-5
+returns-5 c = search ways
+
+pub consume-layout-spec : {M : Type 1} → statement M
+consume-layout-spec =
+    tie.close
+    (tie.spec
+    lookahead-char-requires
+    enum-known-fault
+    enum-known-b
+    class-requires
+    skip-char-requires
+    returns
+    skip-char-requires-2
+    single-line-comment-requires
+    slash-text-requires
+    returns-2
+    returns-3
+    returns-4
+    returns-5)

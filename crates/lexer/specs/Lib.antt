@@ -1,0 +1,9 @@
+pub mod Chars
+pub mod Cursor
+pub mod Digits
+pub mod Float
+pub mod Items
+pub mod Layout
+pub mod Look
+pub mod Nearest
+pub mod Refusal

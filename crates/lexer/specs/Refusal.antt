@@ -1,0 +1,24 @@
+-- Refusals and their numbers: 01, "Refusal numbers". Definitions only.
+use Prim.Native.Nat.{ℕ}
+use Rattle.lexer.specs.declared.refusal.Refusal.{Refusal}
+use Rattle.lexer.specs.declared.refusal.Refusal.the-variants.{EndOfText, UnclosedComment, NoToken, BadQuoted, ForeignByte, SetAside, OutOfLimit, NotValid, NoRoom, TooManyTokens, NoReading, NoText}
+use Rattle.lexer.specs.declared.refusal.Fault.{Fault}
+
+-- 01's number of each refusal
+abbrev pub numberOf : Refusal → ℕ
+numberOf EndOfText = 1
+numberOf UnclosedComment = 2
+numberOf NoToken = 3
+numberOf BadQuoted = 4
+numberOf ForeignByte = 5
+numberOf SetAside = 6
+numberOf OutOfLimit = 7
+numberOf NotValid = 8
+numberOf NoRoom = 9
+numberOf TooManyTokens = 10
+numberOf NoReading = 11
+numberOf NoText = 12
+
+-- a refusal and its offset
+abbrev pub fault : Refusal → ℕ → Fault
+fault r at = record { refusal = r; offset = at }
