@@ -104,17 +104,16 @@ module _ (s : List ℕ) (c : Cursor) where
 abbrev pub NoNewline : List ℕ → ℕ → ℕ → Type 0
 NoNewline s a e = (i : ℕ) → a ≤ i → i < e → getD s i 0 ≡ newline → ⊥
 
-pub plain-one : (s : List ℕ) (a x : ℕ) → getD s a 0 ≡ x → (x ≡ newline → ⊥) → NoNewline s a (a + 1)
-plain-one s a x e n i h k q =
-    let m : a ≡ i = omega arith in
-    n (sym e ∙ ap (λ (j : ℕ). getD s j 0) m ∙ q)
+module _ (s : List ℕ) (a : ℕ) where
+  pub plain-one : (getD s a 0 ≡ newline → ⊥) → NoNewline s a (a + 1)
+  plain-one n i h k e = let m : i ≡ a = omega arith in n (rw m at e)
 
-pub plain-join : (s : List ℕ) (a b e : ℕ) → NoNewline s a b → NoNewline s b e → NoNewline s a e
-plain-join s a b e p q i h k = go (decLe b i)
-  where
-    go : Dec (b ≤ i) → getD s i 0 ≡ newline → ⊥
-    go (yes l) = q i l k
-    go (no l) = p i h (omega arith)
+  pub plain-both : (b e : ℕ) → NoNewline s a b → NoNewline s b e → NoNewline s a e
+  plain-both b e p q i h k = go (decLe b i)
+    where
+      go : Dec (b ≤ i) → getD s i 0 ≡ newline → ⊥
+      go (yes l) = q i l k
+      go (no l) = p i h (omega arith)
 
 -- past a character that is no newline
 abbrev next : Cursor → Cursor

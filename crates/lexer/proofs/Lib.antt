@@ -3,6 +3,9 @@ pub mod Cursors
 pub mod Items
 pub mod Layouts
 pub mod Looks
+pub mod Numbers
+pub mod QuotedItems
 pub mod Scans
+pub mod Spans
 pub mod Steps
 pub mod Table

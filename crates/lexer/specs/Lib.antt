@@ -5,5 +5,8 @@ pub mod Float
 pub mod Items
 pub mod Layout
 pub mod Look
+pub mod Name
 pub mod Nearest
+pub mod Number
+pub mod Quoted
 pub mod Refusal

@@ -35,7 +35,7 @@ pub(crate) fn digit(b: u8) -> u64
 }
 
 // One more than the largest integer: no value is counted further.
-const BEYOND: u64 = 9223372036854775808;
+pub(crate) const BEYOND: u64 = 9223372036854775808;
 
 // A sixteenth of it: what is less can take a digit more in any base, and needs no division.
 const NEAR: u64 = 576460752303423488;

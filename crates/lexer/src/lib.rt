@@ -1,13 +1,18 @@
-// The tokenizer: a port of src/parser/lexer.rs of scryer-prolog. Each module stands beside its part of that file.
 mod chars;
 mod classes;
 mod cursor;
 mod digits;
 mod float;
+mod kind;
 mod layout;
+mod name;
+mod number;
+mod quoted;
 mod refusal;
 
 pub use cursor::Cursor;
+pub use kind::Kind;
+pub use kind::Value;
 pub use refusal::Fault;
 pub use refusal::Refusal;
 pub use refusal::refusal_number;

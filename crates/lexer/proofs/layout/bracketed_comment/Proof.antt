@@ -15,7 +15,7 @@ use Rattle.lexer.specs.declared.refusal.Fault.{Fault}
 use Rattle.lexer.specs.declared.chars.Look.{Look}
 use Rattle.lexer.specs.declared.cursor.Cursor.{Cursor}
 use Rattle.lexer.specs.declared.cursor.Moved.{Moved}
-use Rattle.lexer.proofs.Cursors.{NoNewline, plain-one, plain-join, can-move-along, move-along, move-offset, move-valid}
+use Rattle.lexer.proofs.Cursors.{NoNewline, plain-one, plain-both, can-move-along, move-along, move-offset, move-valid}
 use Rattle.lexer.proofs.Layouts.{bracketed-ends}
 use Rattle.lexer.proofs.Looks.{look-byte}
 use Rattle.lexer.proofs.Scans.{moved-by}
@@ -32,9 +32,9 @@ module _ (s : List ℕ) (c : Cursor) (w : Opening s c) where
       let a = look-byte s (c .offset) slash (w .slash-there) .it in
       let b = look-byte s (c .offset + 1) star (w .star-there) .it in
       let m : c .offset + 1 + 1 ≡ c .offset + 2 = omega arith in
-      plain-join s (c .offset) (c .offset + 1) (c .offset + 2)
-      (plain-one s (c .offset) slash a (λ n. omega arith))
-      (rw m at (plain-one s (c .offset + 1) star b (λ n. omega arith)))
+      plain-both s (c .offset) (c .offset + 1) (c .offset + 2)
+      (plain-one s (c .offset) (λ n. omega arith))
+      (rw m at (plain-one s (c .offset + 1) (λ n. omega arith)))
 
   module _ (r : Look) (e : r ≡ lookahead s (c .offset + 2)) where
     refused : (f : Fault) → r ≡ Look.Refused f → Moved.Refused f ≡ moved s c (bracketedComment s (c .offset))

@@ -1,0 +1,32 @@
+-- `lexer::name::variable_token` meets its contract. Assumes nothing.
+use Prim.Native.Nat.{ℕ, _+_}
+use mathlib.Core.Path.{_≡_}
+use mathlib.Core.List.{List}
+use borrow.Author.Needs.{needs}
+use Rattle.lexer.specs.Name.{alphanumerics, runToken, variableToken}
+use Rattle.lexer.specs.declared.cursor.Scan.{Scan}
+use Rattle.lexer.specs.declared.kind.Kind.the-variants.{Variable}
+use Rattle.lexer.specs.declared.kind.Plain.{Plain}
+use Rattle.lexer.proofs.name.variable_token.Statement.{statement}
+use Rattle.lexer.proofs.name.variable_token.Tie as tie
+
+read : (s : List ℕ) (at : ℕ) (r : Scan) (p : Plain) → r ≡ alphanumerics s (at + 1) → p ≡ runToken Variable r → p ≡ variableToken s at
+read s at r p e f = cc
+
+ruleset ways = (read, needs)
+
+-- answers
+add-run-end : tie.Need-add-run-end
+add-run-end c = search ways
+
+run-end-requires : tie.Need-run-end-requires
+run-end-requires c κs = search ways
+
+run-token-requires : tie.Need-run-token-requires
+run-token-requires c κs = search ways
+
+returns : tie.Need-returns
+returns c = search ways
+
+pub variable-token-spec : {M : Type 1} → statement M
+variable-token-spec = tie.close (tie.spec add-run-end run-end-requires run-token-requires returns)
