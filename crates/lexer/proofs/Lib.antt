@@ -4,8 +4,11 @@ pub mod Items
 pub mod Layouts
 pub mod Looks
 pub mod Numbers
+pub mod Promises
 pub mod QuotedItems
 pub mod Scans
 pub mod Spans
 pub mod Steps
 pub mod Table
+pub mod Texts
+pub mod Values

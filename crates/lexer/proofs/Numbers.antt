@@ -250,7 +250,7 @@ module _ (s : List ℕ) (at : ℕ) where
 
   -- a number that a digit begins
   module _ (b : ℕ) (l : Seen s at b) (h : isDigit 10 b ≡ true) where
-    number-ends : EndsOf s at (numberToken s at)
+    pub number-ends : EndsOf s at (numberToken s at)
     number-ends =
         let d = digits-end 10 0 s at (omega (arith, l .inside)) in
         let p : Plain s at (digitsAt 10 0 s at .end) = record { span = record { ahead = digits-some 10 0 s at b (l .rest) h; inside = d .1 }; plain = digits-plain 10 0 s at (omega arith) } in

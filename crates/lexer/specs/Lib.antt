@@ -10,3 +10,5 @@ pub mod Nearest
 pub mod Number
 pub mod Quoted
 pub mod Refusal
+pub mod Text
+pub mod Token

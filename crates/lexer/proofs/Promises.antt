@@ -1,0 +1,253 @@
+-- Where a token ends: behind its start, within the text; and the cursor behind it is valid. Assumes nothing.
+use mathlib.Core.Path.{_≡_, refl, sym, _∙_, ap}
+use mathlib.Core.Logic.{⊎-elim}
+use mathlib.Core.Bool.{Bool, true, false, cond}
+use mathlib.Core.List.{List, [], _∷_}
+use Prim.Native.Nat.{ℕ, zero, suc, _+_, _-_, _<_, _≤_}
+use native.Mathlib.Omega.{arith}
+use borrow.Author.Tests.{eqb-true, leb-true, lt-ltb}
+use lib.Dec.{eqb, leb, ltb}
+use lib.ListN.{length, drop, getD}
+use Rattle.lexer.specs.Chars.{classOf, is, within, among, graphicTokenChars, soloChars, smallLetter, capitalLetter, underscoreChar, decimalDigit, graphicTokenChar, layoutChar, soloChar, quoteChar, foreignByte, smallA, smallZ, capitalA, capitalZ, digitZero, digitNine, underscore, newline, tab, space, percent, singleQuote, doubleQuote, backQuote, cut, semicolon, point, bar}
+use Rattle.lexer.specs.Digits.{digitOf, isDigit, beyond}
+use Rattle.lexer.specs.Float.{floatValue}
+use Rattle.lexer.specs.Layout.{layoutEnd}
+use Rattle.lexer.specs.Look.{peek, lookahead}
+use Rattle.lexer.specs.Name.{runStop, runEnd, alphanumerics, graphics, runToken, variableToken, nameToken}
+use Rattle.lexer.specs.Number.{numberToken}
+use Rattle.lexer.specs.Quoted.{Quoted, decode}
+use Rattle.lexer.specs.Token.{mark, barTo, barToken, pointTo, endToken, soloTo, soloToken, floated, valued, numbered, plainToken, plainNumber, plain, Text, Lexeme, lexeme, refused, token, plainLexeme, quotedTo, quotedLexeme, lexemeTo, afterLayout, readLexeme}
+use Rattle.lexer.specs.declared.chars.Peek.{Peek}
+use Rattle.lexer.specs.declared.chars.Look.{Look}
+use Rattle.lexer.specs.declared.cursor.Scan.{Scan}
+use Rattle.lexer.specs.declared.cursor.Scan.the-variants.{Stop, Refused}
+use Rattle.lexer.specs.declared.float.Floated.{Floated}
+use Rattle.lexer.specs.declared.kind.Kind.{Kind}
+use Rattle.lexer.specs.declared.kind.Value.{Value}
+use Rattle.lexer.specs.declared.kind.Plain.{Plain}
+use Rattle.lexer.specs.declared.number.Numeral.{Numeral}
+use Rattle.lexer.specs.declared.number.NumberToken.{NumberToken}
+use Rattle.lexer.specs.declared.token.Mark.{Mark}
+use Rattle.lexer.specs.declared.token.Token.{Token}
+use Rattle.lexer.proofs.Cursors.{NoNewline, both, plain-one, plain-both}
+use Rattle.lexer.proofs.Layouts.{Before, layout-ends}
+use Rattle.lexer.proofs.Looks.{Seen, inside-or-not, peek-byte, look-byte}
+use Rattle.lexer.proofs.Numbers.{EndsOf, number-ends}
+use Rattle.lexer.proofs.QuotedItems.{decode-ends}
+use Rattle.lexer.proofs.Spans.{by-test, not-newline, Span, Plain as OneLine, plain-char, plain-on, plain-step}
+use Rattle.lexer.proofs.Steps.{drop-at, drop-end}
+
+-- ---- classes
+-- a newline is layout
+pub no-newline : (x k : ℕ) → classOf x ≡ k → (k ≡ layoutChar → ⊥) → x ≡ newline → ⊥
+unfolding classOf
+no-newline x k e f n = f (cc)
+
+-- what is no digit is of another class
+other-class : (x : ℕ) → within digitZero digitNine x ≡ false → classOf x ≡ decimalDigit → ⊥
+unfolding classOf
+other-class x f =
+    by-test Other (within smallA smallZ x) _ _ (λ _ h. omega arith)
+    (λ _. by-test Other (within capitalA capitalZ x) _ _ (λ _ h. omega arith)
+    (λ _. by-test Other (eqb x underscore) _ _ (λ _ h. omega arith)
+    (λ _. by-test Other (within digitZero digitNine x) _ _ (λ t h. let z : _≡_ {A = ℕ} 0 1 = cc in omega arith)
+    (λ _. by-test Other (among x graphicTokenChars) _ _ (λ _ h. omega arith)
+    (λ _. by-test Other (among x (tab ∷ newline ∷ space ∷ [])) _ _ (λ _ h. omega arith)
+    (λ _. by-test Other (among x soloChars) _ _ (λ _ h. omega arith)
+    (λ _. by-test Other (among x (singleQuote ∷ doubleQuote ∷ backQuote ∷ [])) _ _ (λ _ h. omega arith)
+    (λ _ h. omega arith))))))))
+  where
+    Other : ℕ → Type 0
+    Other k = k ≡ decimalDigit → ⊥
+
+-- a byte of the digits' class is a decimal digit
+pub class-digit : (x : ℕ) → classOf x ≡ decimalDigit → isDigit 10 x ≡ true
+unfolding digitOf
+class-digit x e = go (within digitZero digitNine x) refl
+  where
+    go : (t : Bool) → within digitZero digitNine x ≡ t → isDigit 10 x ≡ true
+    go false f = absurd (other-class x f e)
+    go true f =
+        let h = leb-true digitZero x (both (leb digitZero x) _ f .0) in
+        let k = leb-true x digitNine (both (leb digitZero x) _ f .1) in
+        cc (f, lt-ltb (x - digitZero) 10 (omega arith))
+
+-- ---- tokens that are not quoted
+
+-- the token at `at` ends at e; of its characters only the last can be a newline
+pub record Ending (s : List ℕ) (at e : ℕ) : Type 0 where
+  pub ahead : at < e
+  pub inside : e ≤ length s
+  pub plain : NoNewline s at (e - 1)
+
+pub one-line : (s : List ℕ) (at e : ℕ) → OneLine s at e → Ending s at e
+one-line s at e p = record { ahead = p .span .ahead; inside = p .span .inside; plain = λ i h k. p .plain i h (omega arith) }
+
+abbrev pub PlainEnds : List ℕ → ℕ → Plain → Type 0
+PlainEnds s at (Plain.Whole k v e) = Ending s at e
+PlainEnds s at (Plain.Refused w) = Unit {0}
+
+-- a run, perhaps empty, of bytes that are no layout
+abbrev Run : List ℕ → ℕ → Scan → Type 0
+Run s at (Stop e) = (at ≤ e) × ((e ≤ length s) × NoNewline s at e)
+Run s at (Refused w) = Unit {0}
+
+module _ (s : List ℕ) where
+  longer : (at : ℕ) (r : Scan) → (getD s at 0 ≡ newline → ⊥) → Run s (at + 1) r → Run s at r
+  longer at (Refused w) n p = tt
+  longer at (Stop e) n p =
+      (omega (arith, p .0), (p .1 .0, plain-both s at (at + 1) e (plain-one s at n) (p .1 .1)))
+
+  module _ (lo hi : ℕ) (few : hi ≤ graphicTokenChar) where
+    turn : (at : ℕ) → at < length s → Run s (at + 1) (runEnd lo hi (at + 1) (drop (at + 1) s)) → Run s at (runEnd lo hi at (getD s at 0 ∷ drop (at + 1) s))
+    unfolding runEnd
+    turn at l p =
+        by-test (Run s at) (within lo hi (classOf (getD s at 0))) _ _
+        (λ t. longer at (runEnd lo hi (at + 1) (drop (at + 1) s)) (no-newline (getD s at 0) _ refl (λ k. let m = leb-true _ hi (both (leb lo (classOf (getD s at 0))) _ t .1) in omega arith)) p)
+        (λ t. by-test (Run s at) (eqb (classOf (getD s at 0)) foreignByte) _ _ (λ _. tt) (λ _. (omega arith, (omega arith, λ i p q. absurd (omega arith)))))
+
+    run : (n at : ℕ) → length s - at ≤ n → Run s at (runEnd lo hi at (drop at s))
+    unfolding runEnd
+    run zero at h = ⊎-elim (λ l. rw (drop-end s at l) tt) (λ l. absurd (omega arith)) (inside-or-not s at)
+    run (suc n) at h = ⊎-elim (λ l. rw (drop-end s at l) tt) (λ l. rw (drop-at s at l) (turn at l (run n (at + 1) (omega arith)))) (inside-or-not s at)
+
+  -- a character, and a run behind it
+  run-token : (k : Kind) (at x : ℕ) (r : Scan) → Seen s at x → (x ≡ newline → ⊥) → Run s (at + 1) r → PlainEnds s at (runToken k r)
+  unfolding runToken
+  run-token k at x (Refused w) l n p = tt
+  run-token k at x (Stop e) l n p =
+      one-line s at e
+      (record {
+        span = record { ahead = omega (arith, p .0); inside = p .1 .0 };
+        plain = plain-both s at (at + 1) e (plain-char s at x l n .plain) (p .1 .1);
+      })
+
+  module _ (at x : ℕ) (l : Seen s at x) where
+    of-class : (k : ℕ) → is k x ≡ true → (k ≡ layoutChar → ⊥) → x ≡ newline → ⊥
+    of-class k t f = no-newline x k (eqb-true (classOf x) k t) f
+
+    -- one character
+    single : (x ≡ newline → ⊥) → Ending s at (at + 1)
+    single n = one-line s at (at + 1) (plain-char s at x l n)
+
+    alphanumeric-ends : (k : Kind) → (x ≡ newline → ⊥) → PlainEnds s at (runToken k (alphanumerics s (at + 1)))
+    alphanumeric-ends k n = run-token k at x (alphanumerics s (at + 1)) l n (run smallLetter decimalDigit (omega arith) (length s - (at + 1)) (at + 1) (omega arith))
+
+    name-ends : PlainEnds s at (nameToken s at x)
+    unfolding nameToken
+    name-ends =
+        by-test (PlainEnds s at) (is smallLetter x) _ _ (λ t. alphanumeric-ends Kind.Name (of-class smallLetter t (λ k. omega arith)))
+        (λ _. by-test (PlainEnds s at) (is graphicTokenChar x) _ _
+        (λ t. run-token Kind.Name at x (graphics s (at + 1)) l (of-class graphicTokenChar t (λ k. omega arith)) (run graphicTokenChar graphicTokenChar (omega arith) (length s - (at + 1)) (at + 1) (omega arith)))
+        (λ _. by-test (PlainEnds s at) (eqb x cut) _ _ (λ t. single (not-newline x cut t refl))
+        (λ _. by-test (PlainEnds s at) (eqb x semicolon) _ _ (λ t. single (not-newline x semicolon t refl)) (λ _. tt))))
+
+    module _ (n : x ≡ newline → ⊥) where
+      bar-ends : (r : Look) → lookahead s (at + 1) ≡ r → PlainEnds s at (barTo at r)
+      unfolding barTo
+      bar-ends (Look.Refused w) e = tt
+      bar-ends (Look.Byte y) e =
+          let k = look-byte s (at + 1) y e in
+          let m : at + 1 + 1 ≡ at + 2 = omega arith in
+          by-test (PlainEnds s at) (eqb y bar) _ _
+          (λ t. one-line s at (at + 2) (rw m at (plain-step s at (at + 1) (plain-char s at x l n) y k (not-newline y bar t refl))))
+          (λ _. single n)
+
+      solo-ends : (m : Mark) → PlainEnds s at (soloTo s at x m)
+      unfolding soloTo
+      solo-ends (Mark.Is k) = single n
+      solo-ends Mark.Other = by-test (PlainEnds s at) (eqb x bar) _ _ (λ _. bar-ends (lookahead s (at + 1)) refl) (λ _. name-ends)
+
+    end-ends : x ≡ point → (r : Peek) → peek s (at + 1) ≡ r → PlainEnds s at (pointTo s at r)
+    unfolding pointTo
+    end-ends n Peek.End e = single (λ g. omega arith)
+    end-ends n Peek.Foreign e = tt
+    end-ends n (Peek.Byte y) e =
+        let k = peek-byte s (at + 1) y e in
+        let m : at + 2 - 1 ≡ at + 1 = omega arith in
+        let q = single (λ g. omega arith) in
+        by-test (PlainEnds s at) (eqb y newline) _ _
+        (λ _. record { ahead = omega arith; inside = omega (arith, k .inside); plain = rw m (plain-char s at x l (λ g. omega arith) .plain) })
+        (λ _. by-test (PlainEnds s at) (is layoutChar y) _ _ (λ _. q)
+        (λ _. by-test (PlainEnds s at) (eqb y percent) _ _ (λ _. q) (λ _. rw n at name-ends)))
+
+    floated-ends : (e : ℕ) (v : Floated) → Ending s at e → PlainEnds s at (floated at e v)
+    unfolding floated
+    floated-ends e (Floated.Value v) p = p
+    floated-ends e Floated.Beyond p = tt
+
+    valued-ends : (e : ℕ) (n : Numeral) → Ending s at e → PlainEnds s at (valued at e n)
+    unfolding valued
+    valued-ends e (Numeral.Integer n) p = by-test (PlainEnds s at) (ltb n beyond) _ _ (λ _. p) (λ _. tt)
+    valued-ends e (Numeral.Float m sign y f) p = floated-ends e (floatValue m sign y f) p
+
+    numbered-ends : (field : Bool) (t : NumberToken) → EndsOf s at t → PlainEnds s at (numbered field at t)
+    unfolding numbered
+    numbered-ends field (NumberToken.Whole n e) p = valued-ends e n (one-line s at e (p .plain))
+    numbered-ends field (NumberToken.Partial n e) p =
+        by-test (PlainEnds s at) field _ _ (λ _. valued-ends e n (one-line s at e (p .ends .plain))) (λ _. tt)
+    numbered-ends field (NumberToken.Refused w) p = tt
+
+    digit-ends : (field : Bool) → is decimalDigit x ≡ true → PlainEnds s at (numbered field at (numberToken s at))
+    digit-ends field t = numbered-ends field (numberToken s at) (number-ends s at x l (class-digit x (eqb-true (classOf x) decimalDigit t)))
+
+    -- a token that is not quoted
+    plain-ends : (field layout : Bool) → PlainEnds s at (plain field s at layout x)
+    unfolding plainToken plainNumber
+    plain-ends field layout =
+        by-test (PlainEnds s at) field _ _
+        (λ _. by-test (PlainEnds s at) (is decimalDigit x) _ _ (digit-ends true) (λ _. name-ends))
+        (λ _. by-test (PlainEnds s at) (is decimalDigit x) _ _ (digit-ends false)
+        (λ _. by-test (PlainEnds s at) (is soloChar x) _ _ (λ t. solo-ends (of-class soloChar t (λ k. omega arith)) (mark layout x))
+        (λ _. by-test (PlainEnds s at) (is capitalLetter x) _ _ (λ t. alphanumeric-ends Kind.Variable (of-class capitalLetter t (λ k. omega arith)))
+        (λ _. by-test (PlainEnds s at) (is underscoreChar x) _ _ (λ t. alphanumeric-ends Kind.Variable (of-class underscoreChar t (λ k. omega arith)))
+        (λ _. by-test (PlainEnds s at) (eqb x point) _ _ (λ t. end-ends (eqb-true x point t) (peek s (at + 1)) refl) (λ _. name-ends))))))
+
+    pub plain-token-ends : (field layout : Bool) (p : Plain) (k : Kind) (v : Value) (e : ℕ) → p ≡ plain field s at layout x → p ≡ Plain.Whole k v e → Ending s at e
+    plain-token-ends field layout p k v e f g = rw (sym f ∙ g) at (plain-ends field layout)
+
+-- ---- any token
+pub record LexemeEnds (s : List ℕ) (from : ℕ) (t : Token) (e : ℕ) : Type 0 where
+  pub behind : from ≤ t .start
+  pub ahead : t .start < e
+  pub inside : e ≤ length s
+
+abbrev Ends : List ℕ → ℕ → Lexeme → Type 0
+Ends s from (lexeme t e x) = LexemeEnds s from t e
+Ends s from (refused w) = Unit {0}
+
+module _ (s : List ℕ) (from at : ℕ) (h : from ≤ at) where
+  of-plain : (p : Plain) → PlainEnds s at p → Ends s from (plainLexeme at p)
+  unfolding plainLexeme
+  of-plain (Plain.Whole k v e) p = record { behind = h; ahead = p .ahead; inside = p .inside }
+  of-plain (Plain.Refused w) p = tt
+
+  of-quoted : (k : Kind) (q : ℕ) (d : Quoted) → decode q at s (at + 1) ≡ d → Ends s from (quotedTo k at d)
+  unfolding quotedTo
+  of-quoted k q (Quoted.whole bs e) f =
+      let p = decode-ends q at s (at + 1) bs e f in
+      record { behind = h; ahead = omega (arith, p .ahead); inside = p .inside }
+  of-quoted k q (Quoted.refused w) f = tt
+
+  of-look : (field layout : Bool) (r : Look) → lookahead s at ≡ r → Ends s from (lexemeTo field s at layout r)
+  unfolding lexemeTo quotedLexeme
+  of-look field layout (Look.Refused w) e = tt
+  of-look field layout (Look.Byte x) e =
+      by-test (Ends s from) (is quoteChar x) _ _
+      (λ _. by-test (Ends s from) (eqb x singleQuote) _ _ (λ _. of-quoted Kind.Name singleQuote _ refl)
+      (λ _. by-test (Ends s from) field _ _ (λ _. tt)
+      (λ _. by-test (Ends s from) (eqb x doubleQuote) _ _ (λ _. of-quoted Kind.String doubleQuote _ refl) (λ _. tt))))
+      (λ _. of-plain (plain field s at layout x) (plain-ends s at x (look-byte s at x e) field layout))
+
+-- a token at an offset
+pub token-there : (field layout : Bool) (s : List ℕ) (at : ℕ) (t : Token) (e : ℕ) (x : Text) → lexemeTo field s at layout (lookahead s at) ≡ lexeme t e x → LexemeEnds s at t e
+token-there field layout s at t e x f = rw f at (of-look s at at (omega arith) field layout (lookahead s at) refl)
+
+of-layout : (field : Bool) (s : List ℕ) (from : ℕ) (r : Scan) → Before from (length s) r → Ends s from (afterLayout field s from r)
+unfolding afterLayout
+of-layout field s from (Refused w) b = tt
+of-layout field s from (Stop at) b = of-look s from at (b .0) field (ltb from at) (lookahead s at) refl
+
+-- an accepted token starts at or after the cursor, ends after it starts, within the text
+pub lexeme-ends : (field : Bool) (s : List ℕ) (from : ℕ) (t : Token) (e : ℕ) (x : Text) → from ≤ length s → readLexeme field s from ≡ lexeme t e x → LexemeEnds s from t e
+lexeme-ends field s from t e x h f = rw f at (of-layout field s from (layoutEnd s from) (layout-ends s from h))

@@ -1,0 +1,174 @@
+-- What the text call knows of a token that was read. Assumes nothing.
+use mathlib.Core.Path.{_≡_, refl, sym, _∙_, ap}
+use mathlib.Core.Bool.{Bool, true, false, cond}
+use mathlib.Core.List.{List}
+use Prim.Native.Nat.{ℕ, _+_, _<_}
+use native.Mathlib.Omega.{arith}
+use borrow.Author.Tests.{eqb-true}
+use lib.Dec.{eqb, ltb}
+use lib.ListN.{length, getD}
+use Rattle.lexer.specs.Chars.{is, quoteChar, singleQuote, doubleQuote}
+use Rattle.lexer.specs.Cursor.{moveTo}
+use Rattle.lexer.specs.Layout.{layoutEnd}
+use Rattle.lexer.specs.Look.{lookahead}
+use Rattle.lexer.specs.Quoted.{Quoted, decode}
+use Rattle.lexer.specs.Text.{Reads}
+use Rattle.lexer.specs.Token.{plain, Text, source, decoded, none, Lexeme, lexeme, refused, token, textOf, plainLexeme, quotedTo, quotedLexeme, lexemeTo, afterLayout, readLexeme, kept, found}
+use Rattle.lexer.specs.declared.chars.Look.{Look}
+use Rattle.lexer.specs.declared.cursor.Cursor.{Cursor}
+use Rattle.lexer.specs.declared.cursor.Scan.{Scan}
+use Rattle.lexer.specs.declared.kind.Kind.{Kind}
+use Rattle.lexer.specs.declared.kind.Kind.the-variants.{Name, Variable, String, Number, Open, OpenCT, Close, OpenList, CloseList, OpenCurly, CloseCurly, HeadTailSeparator, DoubleBar, Comma, End}
+use Rattle.lexer.specs.declared.kind.Plain.{Plain}
+use Rattle.lexer.specs.declared.kind.Plain.the-variants.{Whole, Refused}
+use Rattle.lexer.specs.declared.token.Token.{Token}
+use Rattle.lexer.specs.declared.token.Spelling.{Spelling}
+use Rattle.lexer.specs.declared.token.Found.{Found}
+use Rattle.lexer.proofs.Cursors.{move-offset}
+use Rattle.lexer.proofs.Looks.{Seen, look-byte}
+use Rattle.lexer.proofs.Promises.{lexeme-ends}
+
+-- ---- a token whose text is decoded begins with the quote by which it is decoded
+
+-- the token starts within the text, and what follows its first byte is decoded to bs
+pub record QuotedAt (s : List ℕ) (at e : ℕ) (bs : List ℕ) : Type 0 where
+  pub inside : at < length s
+  pub reads : decode (getD s at 0) at s (at + 1) ≡ Quoted.whole bs e
+
+abbrev Decodes : List ℕ → Lexeme → Type 0
+Decodes s (lexeme t e (decoded bs)) = QuotedAt s (t .start) e bs
+Decodes s (lexeme t e source) = Unit {0}
+Decodes s (lexeme t e none) = Unit {0}
+Decodes s (refused w) = Unit {0}
+
+module _ (s : List ℕ) where
+  choice : (b : Bool) (l r : Lexeme) → (b ≡ true → Decodes s l) → (b ≡ false → Decodes s r) → Decodes s (cond b l r)
+  choice true l r p q = p refl
+  choice false l r p q = q refl
+
+  -- a token that is not quoted has its own text or none
+  kind-decodes : (k : Kind) (t : Token) (e : ℕ) → Decodes s (lexeme t e (textOf k))
+  kind-decodes Name t e = tt
+  kind-decodes Variable t e = tt
+  kind-decodes String t e = tt
+  kind-decodes Number t e = tt
+  kind-decodes Open t e = tt
+  kind-decodes OpenCT t e = tt
+  kind-decodes Close t e = tt
+  kind-decodes OpenList t e = tt
+  kind-decodes CloseList t e = tt
+  kind-decodes OpenCurly t e = tt
+  kind-decodes CloseCurly t e = tt
+  kind-decodes HeadTailSeparator t e = tt
+  kind-decodes DoubleBar t e = tt
+  kind-decodes Comma t e = tt
+  kind-decodes End t e = tt
+
+  module _ (at : ℕ) where
+    plain-decodes : (p : Plain) → Decodes s (plainLexeme at p)
+    unfolding plainLexeme
+    plain-decodes (Whole k v e) = kind-decodes k (token k v at) e
+    plain-decodes (Refused w) = tt
+
+    -- a quote, and what follows it
+    module _ (x : ℕ) (l : Seen s at x) where
+      to-decodes : (k : Kind) (q : ℕ) → x ≡ q → (d : Quoted) → decode q at s (at + 1) ≡ d → Decodes s (quotedTo k at d)
+      unfolding quotedTo
+      to-decodes k q h (Quoted.whole bs e) f = record { inside = l .inside; reads = cc (l .it) }
+      to-decodes k q h (Quoted.refused w) f = tt
+
+      quoted-decodes : (field : Bool) → Decodes s (quotedLexeme field s at x)
+      unfolding quotedLexeme
+      quoted-decodes field =
+          choice (eqb x singleQuote) _ _ (λ t. to-decodes Name singleQuote (eqb-true x singleQuote t) (decode singleQuote at s (at + 1)) refl)
+          (λ _. choice field _ _ (λ _. tt)
+          (λ _. choice (eqb x doubleQuote) _ _ (λ t. to-decodes String doubleQuote (eqb-true x doubleQuote t) (decode doubleQuote at s (at + 1)) refl)
+          (λ _. tt)))
+
+    at-decodes : (field layout : Bool) (r : Look) → lookahead s at ≡ r → Decodes s (lexemeTo field s at layout r)
+    unfolding lexemeTo
+    at-decodes field layout (Look.Refused w) f = tt
+    at-decodes field layout (Look.Byte x) f =
+        choice (is quoteChar x) _ _ (λ _. quoted-decodes x (look-byte s at x f) field) (λ _. plain-decodes (plain field s at layout x))
+
+  after-decodes : (field : Bool) (from : ℕ) (r : Scan) → Decodes s (afterLayout field s from r)
+  unfolding afterLayout
+  after-decodes field from (Scan.Refused w) = tt
+  after-decodes field from (Scan.Stop at) = at-decodes at field (ltb from at) (lookahead s at) refl
+
+  pub decoded-at : (field : Bool) (from : ℕ) (t : Token) (e : ℕ) (bs : List ℕ) → readLexeme field s from ≡ lexeme t e (decoded bs) → QuotedAt s (t .start) e bs
+  decoded-at field from t e bs f = rw f at (after-decodes field from (layoutEnd s from))
+
+-- ---- what is kept of a token that was read
+
+-- a text of n decoded bytes
+pub record Bytes (x : Text) (n : ℕ) : Type 0 where
+  pub bytes : List ℕ
+  pub it : x ≡ decoded bytes
+  pub count : length bytes ≡ n
+
+-- the text that a spelling was kept of
+abbrev pub Spelt : Text → Spelling → Type 0
+Spelt x Spelling.Source = x ≡ source
+Spelt x (Spelling.Decoded n) = Bytes x n
+Spelt x Spelling.Absent = x ≡ none
+
+spelt-kept : (x : Text) → Spelt x (kept x)
+spelt-kept source = refl
+spelt-kept (decoded bs) = record { bytes = bs; it = refl; count = refl }
+spelt-kept none = refl
+
+-- where the token ends, and its text
+pub record Kept (s : List ℕ) (c : Cursor) (t : Token) (spelling : Spelling) (next : Cursor) : Type 0 where
+  pub end : ℕ
+  pub text : Text
+  pub reads : readLexeme false s (c .offset) ≡ lexeme t end text
+  pub spelt : Spelt text spelling
+  pub moved : next ≡ moveTo s c end
+
+-- a quoted token that stands for n bytes
+pub record Decoded (s : List ℕ) (c : Cursor) (t : Token) (n : ℕ) (next : Cursor) : Type 0 where
+  pub end : ℕ
+  pub bytes : List ℕ
+  pub reads : readLexeme false s (c .offset) ≡ lexeme t end (decoded bytes)
+  pub count : length bytes ≡ n
+  pub moved : next ≡ moveTo s c end
+  pub quoted : QuotedAt s (t .start) end bytes
+
+module _ (s : List ℕ) (c : Cursor) (t : Token) (next : Cursor) where
+  pub kept-of : (x : Spelling) → Reads s c t x next → Kept s c t x next
+  unfolding found
+  kept-of x r = go (readLexeme false s (c .offset)) refl (r .read)
+    where
+      go : (l : Lexeme) → readLexeme false s (c .offset) ≡ l → found s c l ≡ Found.Whole t x next → Kept s c t x next
+      go (lexeme u e y) g h = let k : kept y ≡ x = cc in record { end = e; text = y; reads = cc; spelt = rw k at (spelt-kept y); moved = cc }
+      go (refused w) g h = let z : _≡_ {A = ℕ} 0 1 = cc in absurd (omega arith)
+
+  -- its own bytes run to where the next cursor stands
+  module _ (r : Reads s c t Spelling.Source next) where
+    it : Kept s c t Spelling.Source next
+    it = kept-of Spelling.Source r
+
+    ends : next .offset ≡ it .end
+    ends =
+        let b = lexeme-ends false s (c .offset) t (it .end) (it .text) (r .valid .offset) (it .reads) in
+        ap (λ (d : Cursor). d .offset) (it .moved) ∙ move-offset s c (it .end) (omega arith) (b .inside)
+
+    pub source-read : readLexeme false s (c .offset) ≡ lexeme t (next .offset) source
+    source-read = cc (it .reads, it .spelt, ends)
+
+    pub source-moved : next ≡ moveTo s c (next .offset)
+    source-moved = it .moved ∙ ap (moveTo s c) (sym ends)
+
+  pub decoded-read : (n : ℕ) → Reads s c t (Spelling.Decoded n) next → Decoded s c t n next
+  decoded-read n r =
+      let k = kept-of (Spelling.Decoded n) r in
+      let f : readLexeme false s (c .offset) ≡ lexeme t (k .end) (decoded (k .spelt .bytes)) = k .reads ∙ ap (lexeme t (k .end)) (k .spelt .it) in
+      record {
+        end = k .end;
+        bytes = k .spelt .bytes;
+        reads = f;
+        count = k .spelt .count;
+        moved = k .moved;
+        quoted = decoded-at s false (c .offset) t (k .end) (k .spelt .bytes) f;
+      }

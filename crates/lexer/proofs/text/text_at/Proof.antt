@@ -1,0 +1,68 @@
+-- `lexer::text::text_at` meets its contract. Assumes nothing.
+use Prim.Native.Nat.{ℕ}
+use mathlib.Core.Path.{_≡_, sym, _∙_}
+use mathlib.Core.Bool.{false}
+use mathlib.Core.List.{List}
+use borrow.Author.Needs.{needs}
+use lib.ListN.{length}
+use Rattle.lexer.specs.Cursor.{Valid}
+use Rattle.lexer.specs.Text.{leaves, textTold, tokenText, Reads}
+use Rattle.lexer.specs.Token.{Lexeme, lexeme, refused, readLexeme, found}
+use Rattle.lexer.specs.declared.cursor.Cursor.{Cursor}
+use Rattle.lexer.specs.declared.refusal.Fault.{Fault}
+use Rattle.lexer.specs.declared.text.TextAnswer.the-variants.{Refused}
+use Rattle.lexer.specs.declared.token.Token.{Token}
+use Rattle.lexer.specs.declared.token.Spelling.{Spelling}
+use Rattle.lexer.specs.declared.token.Found.{Found}
+use Rattle.lexer.proofs.text.text_at.Statement.{statement}
+use Rattle.lexer.proofs.text.text_at.Tie as tie
+
+module _ (s : List ℕ) (c : Cursor) where
+  told : (d : List ℕ) (l : Lexeme) (w : Fault) → found s c l ≡ Found.Refused w → leaves (Refused w c) d ≡ textTold s c d l
+  unfolding found textTold
+  told d (lexeme t e x) w f = cc
+  told d (refused v) w f = cc
+
+  -- the ways out: r is what was found
+  module _ (r : Found) (f : r ≡ found s c (readLexeme false s (c .offset))) where
+    refuse : (d : List ℕ) (w : Fault) → r ≡ Found.Refused w → leaves (Refused w c) d ≡ tokenText s c d
+    refuse d w h = told d (readLexeme false s (c .offset)) w (sym f ∙ h)
+
+    reads : (t : Token) (x : Spelling) (next : Cursor) → Valid (length s) c → r ≡ Found.Whole t x next → Reads s c t x next
+    reads t x next v h = record { valid = v; read = sym f ∙ h }
+
+ruleset ways = (refuse, reads, needs)
+
+-- answers
+read-token-requires : tie.Need-read-token-requires
+read-token-requires c κs = search ways
+
+enum-known-fault : tie.Need-enum-known-fault
+enum-known-fault c = search ways
+
+enum-known-token : tie.Need-enum-known-token
+enum-known-token c = search ways
+
+token-text-requires : tie.Need-token-text-requires
+token-text-requires c κs = search ways
+
+returns : tie.Need-returns
+returns c = search ways
+
+same-length : tie.Need-same-length
+same-length c = search ways
+
+returns-2 : tie.Need-returns-2
+returns-2 c = search ways
+
+pub text-at-spec : {M : Type 1} → statement M
+text-at-spec =
+    tie.close
+    (tie.spec
+    read-token-requires
+    enum-known-fault
+    enum-known-token
+    token-text-requires
+    returns
+    same-length
+    returns-2)

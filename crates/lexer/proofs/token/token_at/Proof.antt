@@ -1,0 +1,84 @@
+-- `lexer::token::token_at` meets its contract. Assumes nothing.
+use Prim.Native.Nat.{ℕ}
+use mathlib.Core.Path.{_≡_, sym, _∙_}
+use mathlib.Core.Bool.{Bool}
+use mathlib.Core.List.{List}
+use borrow.Author.Needs.{needs}
+use borrow.Author.Tests.{ne-eqb}
+use lib.ListN.{length}
+use Rattle.lexer.specs.Chars.{classOf, quoteChar}
+use Rattle.lexer.specs.Cursor.{Valid}
+use Rattle.lexer.specs.Look.{lookahead}
+use Rattle.lexer.specs.Token.{plain, plainLexeme, quotedLexeme, lexemeTo, found, Begins}
+use Rattle.lexer.specs.declared.refusal.Fault.{Fault}
+use Rattle.lexer.specs.declared.chars.Look.{Look}
+use Rattle.lexer.specs.declared.cursor.Cursor.{Cursor}
+use Rattle.lexer.specs.declared.token.Found.{Found}
+use Rattle.lexer.proofs.token.token_at.Statement.{statement}
+use Rattle.lexer.proofs.token.token_at.Tie as tie
+
+-- what stands at the cursor
+abbrev There : Bool → List ℕ → Cursor → Bool → Found
+There field s c t = found s c (lexemeTo field s (c .offset) t (lookahead s (c .offset)))
+
+module _ (s : List ℕ) (c : Cursor) (r : Look) (e : r ≡ lookahead s (c .offset)) where
+  refused : (field t : Bool) (w : Fault) → r ≡ Look.Refused w → Found.Refused w ≡ There field s c t
+  unfolding lexemeTo found
+  refused field t w f = cc
+
+  module _ (b : ℕ) (f : r ≡ Look.Byte b) where
+    begins : Valid (length s) c → Begins s c b
+    begins v = record { valid = v; there = sym e ∙ f }
+
+    module _ (field t : Bool) (k : ℕ) (q : k ≡ classOf b) (z : Found) where
+      quoted : k ≡ quoteChar → z ≡ found s c (quotedLexeme field s (c .offset) b) → z ≡ There field s c t
+      unfolding lexemeTo
+      quoted g h = cc
+
+      not-quoted : (k ≡ quoteChar → ⊥) → z ≡ found s c (plainLexeme (c .offset) (plain field s (c .offset) t b)) → z ≡ There field s c t
+      unfolding lexemeTo
+      not-quoted g h = cc (ne-eqb k quoteChar g)
+
+ruleset ways = (refused, begins, quoted, not-quoted, needs)
+
+-- answers
+lookahead-char-requires : tie.Need-lookahead-char-requires
+lookahead-char-requires c κs = search ways
+
+enum-known-fault : tie.Need-enum-known-fault
+enum-known-fault c = search ways
+
+enum-known-b : tie.Need-enum-known-b
+enum-known-b c = search ways
+
+class-requires : tie.Need-class-requires
+class-requires c κs = search ways
+
+quoted-found-requires : tie.Need-quoted-found-requires
+quoted-found-requires c κs = search ways
+
+returns : tie.Need-returns
+returns c = search ways
+
+plain-found-requires : tie.Need-plain-found-requires
+plain-found-requires c κs = search ways
+
+returns-2 : tie.Need-returns-2
+returns-2 c = search ways
+
+returns-3 : tie.Need-returns-3
+returns-3 c = search ways
+
+pub token-at-spec : {M : Type 1} → statement M
+token-at-spec =
+    tie.close
+    (tie.spec
+    lookahead-char-requires
+    enum-known-fault
+    enum-known-b
+    class-requires
+    quoted-found-requires
+    returns
+    plain-found-requires
+    returns-2
+    returns-3)

@@ -1,0 +1,55 @@
+-- The text call and the show call: 01, "Tokens". Definitions only.
+use Prim.Native.Nat.{ℕ}
+use mathlib.Core.Path.{_≡_}
+use mathlib.Core.Bool.{false, cond, _&&_}
+use mathlib.Core.List.{List, []}
+use lib.Dec.{leb}
+use lib.ListN.{length}
+use lib.Seq.{sets}
+use Rattle.lexer.specs.Cursor.{part, valid, moveTo, Valid}
+use Rattle.lexer.specs.Refusal.{fault}
+use Rattle.lexer.specs.Token.{source, decoded, none, Lexeme, lexeme, refused, readLexeme, notValid, found}
+use Rattle.lexer.specs.declared.refusal.Refusal.the-variants.{NoRoom, NoText}
+use Rattle.lexer.specs.declared.cursor.Cursor.{Cursor}
+use Rattle.lexer.specs.declared.token.Token.{Token}
+use Rattle.lexer.specs.declared.token.Spelling.{Spelling}
+use Rattle.lexer.specs.declared.token.Found.{Found}
+use Rattle.lexer.specs.declared.text.Part.{Part}
+use Rattle.lexer.specs.declared.text.TextAnswer.{TextAnswer}
+use Rattle.lexer.specs.declared.text.TextAnswer.the-variants.{Read, Refused}
+
+-- what the text call answers, and what it leaves in the scratch
+pub data Outcome : Type 0 where
+  leaves : TextAnswer → List ℕ → Outcome
+
+-- 01: a name or a variable is a part of the text; a quoted item is decoded to the front of the scratch d, refusal 9 where it does not fit; a token with
+-- no text is refusal 12. A refusal leaves the scratch as it was
+unfoldable pub textTold : List ℕ → Cursor → List ℕ → Lexeme → Outcome
+textTold s c d (lexeme t e source) = leaves (Read t (moveTo s c e) (Part.Source (t .start) e)) d
+textTold s c d (lexeme t e (decoded bs)) =
+    cond (leb (length bs) (length d)) (leaves (Read t (moveTo s c e) (Part.Scratch 0 (length bs))) (sets d 0 bs))
+    (leaves (Refused (fault NoRoom (t .start)) c) d)
+textTold s c d (lexeme t e none) = leaves (Refused (fault NoText (t .start)) c) d
+textTold s c d (refused w) = leaves (Refused w c) d
+
+-- the token at the cursor c, as the token call reads it
+abbrev pub tokenText : List ℕ → Cursor → List ℕ → Outcome
+tokenText s c d = textTold s c d (readLexeme false s (c .offset))
+
+-- the text call
+abbrev pub nextTokenText : List ℕ → Cursor → List ℕ → Outcome
+nextTokenText s c d = cond (valid (length s) c) (tokenText s c d) (leaves (Refused notValid c) d)
+
+-- the part of a slice from a to e, or the empty part where it does not fit
+unfoldable pub fitted : ℕ → ℕ → List ℕ → List ℕ
+fitted a e s = cond (leb a e && leb e (length s)) (part a e s) []
+
+-- 01: the show call hands back a part of the text or of the scratch
+unfoldable pub shown : List ℕ → List ℕ → Part → List ℕ
+shown s d (Part.Source a e) = fitted a e s
+shown s d (Part.Scratch a e) = fitted a e d
+
+-- ---- what the private functions ask: a valid cursor c, at which the token t was read, with its spelling and the cursor behind it
+pub record Reads (s : List ℕ) (c : Cursor) (t : Token) (spelling : Spelling) (next : Cursor) : Type 0 where
+  pub valid : Valid (length s) c
+  pub read : found s c (readLexeme false s (c .offset)) ≡ Found.Whole t spelling next

@@ -1,0 +1,150 @@
+// The text call and the show call.
+use crate::cursor::Cursor;
+use crate::cursor::is_valid;
+use crate::quoted::write_quoted;
+use crate::refusal::Fault;
+use crate::refusal::Refusal;
+use crate::token::Found;
+use crate::token::Spelling;
+use crate::token::Token;
+use crate::token::not_valid;
+use crate::token::read_token;
+ghost use mathlib.Core.Path.{_≡_};
+ghost use lib.ListN.{length};
+ghost use Rattle.lexer.specs.Cursor.{Valid};
+ghost use Rattle.lexer.specs.Text.{leaves, tokenText, nextTokenText, shown, Reads};
+ghost use Rattle.lexer.specs.declared.token.Spelling.{Spelling};
+
+// A part of the source text, or of the scratch.
+pub enum Part {
+    Source { start: usize, end: usize },
+    Scratch { start: usize, end: usize },
+}
+
+pub enum TextAnswer {
+    Read {
+        token: Token,
+        next: Cursor,
+        part: Part,
+    },
+    Refused {
+        fault: Fault,
+        cursor: Cursor,
+    },
+}
+
+// A quoted token of `n` bytes: they are decoded to the front of the scratch.
+fn decoded_text(
+    text: &[u8],
+    cursor: Cursor,
+    token: Token,
+    n: usize,
+    next: Cursor,
+    scratch: &mut [u8],
+) -> TextAnswer
+    requires { ⌜ Reads (now text) cursor token (Spelling.Decoded n) next ⌝ }
+    ensures { λ r. ⌜ leaves r (now (scratch .exit)) ≡ tokenText (now (text .entry)) cursor (now (scratch .entry)) ⌝ }
+{
+    let start = token.start;
+    if scratch.len() < n {
+        return TextAnswer::Refused {
+            fault: Fault {
+                refusal: Refusal::NoRoom,
+                offset: start,
+            },
+            cursor,
+        };
+    }
+    write_quoted(text, start + 1, text[start], start, n, scratch);
+    TextAnswer::Read {
+        token,
+        next,
+        part: Part::Scratch { start: 0, end: n },
+    }
+}
+
+// The text of a token that was read, by its spelling.
+fn token_text(
+    text: &[u8],
+    cursor: Cursor,
+    token: Token,
+    spelling: Spelling,
+    next: Cursor,
+    scratch: &mut [u8],
+) -> TextAnswer
+    requires { ⌜ Reads (now text) cursor token spelling next ⌝ }
+    ensures { λ r. ⌜ leaves r (now (scratch .exit)) ≡ tokenText (now (text .entry)) cursor (now (scratch .entry)) ⌝ }
+{
+    match spelling {
+        Spelling::Absent => TextAnswer::Refused {
+            fault: Fault {
+                refusal: Refusal::NoText,
+                offset: token.start,
+            },
+            cursor,
+        },
+        Spelling::Source => TextAnswer::Read {
+            token,
+            next,
+            part: Part::Source {
+                start: token.start,
+                end: next.offset,
+            },
+        },
+        Spelling::Decoded(n) => decoded_text(text, cursor, token, n, next, scratch),
+    }
+}
+
+// The text of the token at a valid cursor.
+fn text_at(text: &[u8], cursor: Cursor, scratch: &mut [u8]) -> TextAnswer
+    requires { ⌜ Valid (length (now text)) cursor ⌝ }
+    ensures { λ r. ⌜ leaves r (now (scratch .exit)) ≡ tokenText (now (text .entry)) cursor (now (scratch .entry)) ⌝ }
+{
+    match read_token(text, cursor, false) {
+        Found::Refused(fault) => TextAnswer::Refused { fault, cursor },
+        Found::Whole {
+            token,
+            spelling,
+            next,
+        } => token_text(text, cursor, token, spelling, next, scratch),
+    }
+}
+
+// The text call: a quoted item is decoded to the front of the scratch, which a refusal leaves as it was.
+pub fn next_token_text(text: &[u8], cursor: Cursor, scratch: &mut [u8]) -> TextAnswer
+    ensures { λ r. ⌜ leaves r (now (scratch .exit)) ≡ nextTokenText (now (text .entry)) cursor (now (scratch .entry)) ⌝ }
+{
+    if is_valid(text.len(), cursor) {
+        return text_at(text, cursor, scratch);
+    }
+    TextAnswer::Refused {
+        fault: not_valid(),
+        cursor,
+    }
+}
+
+// The show call: the part itself, uncopied; where it is not there, the empty part at the front of the text.
+pub fn show<'a>(text: &'a [u8], scratch: &'a [u8], part: Part) -> &'a [u8]
+    ensures { λ r. ⌜ now r ≡ shown (now (text .entry)) (now (scratch .entry)) part ⌝ }
+{
+    match part {
+        Part::Source { start, end } => {
+            if end < start {
+                return &text[0..0];
+            }
+            if text.len() < end {
+                return &text[0..0];
+            }
+            &text[start..end]
+        }
+        Part::Scratch { start, end } => {
+            if end < start {
+                return &text[0..0];
+            }
+            if scratch.len() < end {
+                return &text[0..0];
+            }
+            &scratch[start..end]
+        }
+    }
+}

@@ -1,0 +1,451 @@
+// Tokens, and the token and number calls.
+use crate::chars::Look;
+use crate::chars::Peek;
+use crate::chars::lookahead_char;
+use crate::chars::peek_char;
+use crate::classes::CAPITAL;
+use crate::classes::DIGIT;
+use crate::classes::LAYOUT;
+use crate::classes::QUOTE;
+use crate::classes::SOLO;
+use crate::classes::UNDERSCORE;
+use crate::classes::class;
+use crate::cursor::Cursor;
+use crate::cursor::Moved;
+use crate::cursor::is_valid;
+use crate::cursor::skip_along;
+use crate::cursor::skip_char;
+use crate::digits::BEYOND;
+use crate::float::Floated;
+use crate::float::float_value;
+use crate::kind::Kind;
+use crate::kind::Plain;
+use crate::kind::Value;
+use crate::layout::scan_for_layout;
+use crate::name::name_token;
+use crate::name::variable_token;
+use crate::number::NumberToken;
+use crate::number::Numeral;
+use crate::number::number_token;
+use crate::quoted::Measure;
+use crate::quoted::measure_quoted;
+use crate::refusal::Fault;
+use crate::refusal::Refusal;
+ghost use mathlib.Core.Path.{_≡_};
+ghost use mathlib.Core.Bool.{true, false};
+ghost use Prim.Native.Nat.{_+_, _<_};
+ghost use lib.ListN.{length};
+ghost use Rattle.lexer.specs.Cursor.{Valid, moveTo};
+ghost use Rattle.lexer.specs.Refusal.{fault};
+ghost use Rattle.lexer.specs.declared.refusal.Refusal.the-variants.{NoToken, OutOfLimit};
+ghost use Rattle.lexer.specs.declared.token.Found.{Found};
+ghost use Rattle.lexer.specs.declared.kind.Plain.{Plain};
+ghost use Rattle.lexer.specs.declared.kind.Value.{Value};
+ghost use Rattle.lexer.specs.Number.{numberToken};
+ghost use Rattle.lexer.specs.Quoted.{decode};
+ghost use Rattle.lexer.specs.Look.{lookahead};
+ghost use Rattle.lexer.specs.Token.{mark, barToken, endToken, soloToken, valued, numbered, plainToken, plainNumber, plain, textOf, kept, plainLexeme, quotedTo, quotedLexeme, lexemeTo, readLexeme, answered, notValid, call, nextToken, nextNumberToken, found, At, AtDigit, Begins, Passing};
+
+// A token, whose span ends where the cursor behind it stands.
+pub struct Token {
+    pub kind: Kind,
+    pub value: Value,
+    pub start: usize,
+}
+
+pub enum Answer {
+    Read { token: Token, next: Cursor },
+    Refused { fault: Fault, cursor: Cursor },
+}
+
+// What a single character is by itself.
+pub enum Mark {
+    Is(Kind),
+    Other,
+}
+
+fn mark_of(b: u8, layout: bool) -> Mark
+    ensures { λ r. ⌜ r ≡ mark layout b ⌝ }
+{
+    match b {
+        b'(' => {
+            if layout {
+                Mark::Is(Kind::Open)
+            } else {
+                Mark::Is(Kind::OpenCT)
+            }
+        }
+        b')' => Mark::Is(Kind::Close),
+        b'[' => Mark::Is(Kind::OpenList),
+        b']' => Mark::Is(Kind::CloseList),
+        b'{' => Mark::Is(Kind::OpenCurly),
+        b'}' => Mark::Is(Kind::CloseCurly),
+        b',' => Mark::Is(Kind::Comma),
+        _ => Mark::Other,
+    }
+}
+
+fn whole(kind: Kind, end: usize) -> Plain
+    ensures { λ r. ⌜ r ≡ Plain.Whole kind Value.Nothing end ⌝ }
+{
+    Plain::Whole {
+        kind,
+        value: Value::Nothing,
+        end,
+    }
+}
+
+// The bar at `at`, or two.
+fn bar_token(text: &[u8], at: usize) -> Plain
+    requires { ⌜ at < length (now text) ⌝ }
+    ensures { λ r. ⌜ r ≡ barToken (now (text .entry)) at ⌝ }
+{
+    let next = at + 1;
+    match lookahead_char(text, next) {
+        Look::Refused(fault) => Plain::Refused(fault),
+        Look::Byte(b) => {
+            if b == b'|' {
+                return whole(Kind::DoubleBar, at + 2);
+            }
+            whole(Kind::HeadTailSeparator, next)
+        }
+    }
+}
+
+// The point at `at`: the end mark, with a newline behind it, or a name.
+fn end_token(text: &[u8], at: usize) -> Plain
+    requires { ⌜ at < length (now text) ⌝ }
+    ensures { λ r. ⌜ r ≡ endToken (now (text .entry)) at ⌝ }
+{
+    let next = at + 1;
+    match peek_char(text, next) {
+        Peek::End => whole(Kind::End, next),
+        Peek::Foreign => Plain::Refused(Fault {
+            refusal: Refusal::ForeignByte,
+            offset: next,
+        }),
+        Peek::Byte(b) => {
+            if b == b'\n' {
+                return whole(Kind::End, at + 2);
+            }
+            if class(b) == LAYOUT {
+                return whole(Kind::End, next);
+            }
+            if b == b'%' {
+                return whole(Kind::End, next);
+            }
+            name_token(text, at, b'.')
+        }
+    }
+}
+
+// The token that begins with the solo character `b`.
+fn solo_token(text: &[u8], at: usize, b: u8, layout: bool) -> Plain
+    requires { ⌜ at < length (now text) ⌝ }
+    ensures { λ r. ⌜ r ≡ soloToken (now (text .entry)) at layout b ⌝ }
+{
+    match mark_of(b, layout) {
+        Mark::Is(kind) => whole(kind, at + 1),
+        Mark::Other => {
+            if b == b'|' {
+                return bar_token(text, at);
+            }
+            name_token(text, at, b)
+        }
+    }
+}
+
+fn out_of_limit(at: usize) -> Plain
+    ensures { λ r. ⌜ r ≡ Plain.Refused (fault OutOfLimit at) ⌝ }
+{
+    Plain::Refused(Fault {
+        refusal: Refusal::OutOfLimit,
+        offset: at,
+    })
+}
+
+// The value of the numeral at `at`, if it is within its limit.
+fn number_value(at: usize, end: usize, numeral: Numeral) -> Plain
+    ensures { λ r. ⌜ r ≡ valued at end numeral ⌝ }
+{
+    match numeral {
+        Numeral::Integer(n) => {
+            if n < BEYOND {
+                return Plain::Whole {
+                    kind: Kind::Number,
+                    value: Value::Integer(n),
+                    end,
+                };
+            }
+            out_of_limit(at)
+        }
+        Numeral::Float {
+            digits,
+            minus,
+            exponent,
+            fraction,
+        } => match float_value(digits, minus, exponent, fraction) {
+            Floated::Value(v) => Plain::Whole {
+                kind: Kind::Number,
+                value: Value::Float(v),
+                end,
+            },
+            Floated::Beyond => out_of_limit(at),
+        },
+    }
+}
+
+// The number that the digit at `at` begins; in a field it may reach the end of the text.
+fn whole_number(text: &[u8], at: usize, field: bool) -> Plain
+    requires { ⌜ AtDigit (now text) at ⌝ }
+    ensures { λ r. ⌜ r ≡ numbered field at (numberToken (now (text .entry)) at) ⌝ }
+{
+    match number_token(text, at) {
+        NumberToken::Refused(fault) => Plain::Refused(fault),
+        NumberToken::Whole { numeral, end } => number_value(at, end, numeral),
+        NumberToken::Partial { numeral, end } => {
+            if field {
+                return number_value(at, end, numeral);
+            }
+            Plain::Refused(Fault {
+                refusal: Refusal::EndOfText,
+                offset: end,
+            })
+        }
+    }
+}
+
+// The token at `at` that begins with `b` and is not quoted.
+fn plain_token(text: &[u8], at: usize, layout: bool, b: u8) -> Plain
+    requires { ⌜ At (now text) at b ⌝ }
+    ensures { λ r. ⌜ r ≡ plainToken (now (text .entry)) at layout b ⌝ }
+{
+    match class(b) {
+        DIGIT => whole_number(text, at, false),
+        SOLO => solo_token(text, at, b, layout),
+        CAPITAL => variable_token(text, at),
+        UNDERSCORE => variable_token(text, at),
+        _ => {
+            if b == b'.' {
+                return end_token(text, at);
+            }
+            name_token(text, at, b)
+        }
+    }
+}
+
+// The same for the number call.
+fn plain_number(text: &[u8], at: usize, b: u8) -> Plain
+    requires { ⌜ At (now text) at b ⌝ }
+    ensures { λ r. ⌜ r ≡ plainNumber (now (text .entry)) at b ⌝ }
+{
+    if class(b) == DIGIT {
+        return whole_number(text, at, true);
+    }
+    name_token(text, at, b)
+}
+
+// The one for the call.
+fn plain_read(text: &[u8], at: usize, layout: bool, field: bool, b: u8) -> Plain
+    requires { ⌜ At (now text) at b ⌝ }
+    ensures { λ r. ⌜ r ≡ plain field (now (text .entry)) at layout b ⌝ }
+{
+    if field {
+        return plain_number(text, at, b);
+    }
+    plain_token(text, at, layout, b)
+}
+
+// What a token's text is: its own bytes, so many decoded ones, or none.
+pub enum Spelling {
+    Source,
+    Decoded(usize),
+    Absent,
+}
+
+// A token with its spelling and the cursor behind it.
+pub enum Found {
+    Whole {
+        token: Token,
+        spelling: Spelling,
+        next: Cursor,
+    },
+    Refused(Fault),
+}
+
+fn spelling_of(kind: Kind) -> Spelling
+    ensures { λ r. ⌜ r ≡ kept (textOf kind) ⌝ }
+{
+    match kind {
+        Kind::Name => Spelling::Source,
+        Kind::Variable => Spelling::Source,
+        Kind::String => Spelling::Absent,
+        Kind::Number => Spelling::Absent,
+        Kind::Open => Spelling::Absent,
+        Kind::OpenCT => Spelling::Absent,
+        Kind::Close => Spelling::Absent,
+        Kind::OpenList => Spelling::Absent,
+        Kind::CloseList => Spelling::Absent,
+        Kind::OpenCurly => Spelling::Absent,
+        Kind::CloseCurly => Spelling::Absent,
+        Kind::HeadTailSeparator => Spelling::Absent,
+        Kind::DoubleBar => Spelling::Absent,
+        Kind::Comma => Spelling::Absent,
+        Kind::End => Spelling::Absent,
+    }
+}
+
+// The cursor behind a token that is not quoted: only its last character can be a newline, the end mark's.
+fn past_token(text: &[u8], c: Cursor, end: usize) -> Cursor
+    requires { ⌜ Passing (now text) c end ⌝ }
+    ensures { λ r. ⌜ r ≡ moveTo (now (text .entry)) c end ⌝ }
+{
+    let last = end - 1;
+    skip_char(skip_along(c, last), text[last])
+}
+
+// The token at the cursor that begins with `b` and is not quoted.
+fn plain_found(text: &[u8], c: Cursor, layout: bool, field: bool, b: u8) -> Found
+    requires { ⌜ Begins (now text) c b ⌝ }
+    ensures { λ r. ⌜ r ≡ found (now (text .entry)) c (plainLexeme (c .offset) (plain field (now (text .entry)) (c .offset) layout b)) ⌝ }
+{
+    let at = c.offset;
+    match plain_read(text, at, layout, field, b) {
+        Plain::Refused(fault) => Found::Refused(fault),
+        Plain::Whole { kind, value, end } => Found::Whole {
+            token: Token {
+                kind,
+                value,
+                start: at,
+            },
+            spelling: spelling_of(kind),
+            next: past_token(text, c, end),
+        },
+    }
+}
+
+// The quoted token at the cursor, which `quote` begins.
+fn quoted_token(text: &[u8], c: Cursor, quote: u8, kind: Kind) -> Found
+    requires { ⌜ Begins (now text) c quote ⌝ }
+    ensures { λ r. ⌜ r ≡ found (now (text .entry)) c (quotedTo kind (c .offset) (decode quote (c .offset) (now (text .entry)) (c .offset + 1))) ⌝ }
+{
+    let at = c.offset;
+    match measure_quoted(text, skip_char(c, quote), quote, at) {
+        Measure::Refused(fault) => Found::Refused(fault),
+        Measure::Whole { length, next } => Found::Whole {
+            token: Token {
+                kind,
+                value: Value::Nothing,
+                start: at,
+            },
+            spelling: Spelling::Decoded(length),
+            next,
+        },
+    }
+}
+
+fn no_token(at: usize) -> Found
+    ensures { λ r. ⌜ r ≡ Found.Refused (fault NoToken at) ⌝ }
+{
+    Found::Refused(Fault {
+        refusal: Refusal::NoToken,
+        offset: at,
+    })
+}
+
+// The token at the cursor that begins with the quote `b`.
+fn quoted_found(text: &[u8], c: Cursor, field: bool, b: u8) -> Found
+    requires { ⌜ Begins (now text) c b ⌝ }
+    ensures { λ r. ⌜ r ≡ found (now (text .entry)) c (quotedLexeme field (now (text .entry)) (c .offset) b) ⌝ }
+{
+    if b == b'\'' {
+        return quoted_token(text, c, b'\'', Kind::Name);
+    }
+    if field {
+        return no_token(c.offset);
+    }
+    if b == b'"' {
+        return quoted_token(text, c, b'"', Kind::String);
+    }
+    no_token(c.offset)
+}
+
+// The token at the cursor.
+fn token_at(text: &[u8], c: Cursor, layout: bool, field: bool) -> Found
+    requires { ⌜ Valid (length (now text)) c ⌝ }
+    ensures { λ r. ⌜ r ≡ found (now (text .entry)) c (lexemeTo field (now (text .entry)) (c .offset) layout (lookahead (now (text .entry)) (c .offset))) ⌝ }
+{
+    let at = c.offset;
+    match lookahead_char(text, at) {
+        Look::Refused(fault) => Found::Refused(fault),
+        Look::Byte(b) => {
+            if class(b) == QUOTE {
+                return quoted_found(text, c, field, b);
+            }
+            plain_found(text, c, layout, field, b)
+        }
+    }
+}
+
+// The token behind the layout at a valid cursor; in a field, for the number call.
+pub(crate) fn read_token(text: &[u8], cursor: Cursor, field: bool) -> Found
+    requires { ⌜ Valid (length (now text)) cursor ⌝ }
+    ensures { λ r. ⌜ r ≡ found (now (text .entry)) cursor (readLexeme field (now (text .entry)) (cursor .offset)) ⌝ }
+{
+    match scan_for_layout(text, cursor) {
+        Moved::Refused(fault) => Found::Refused(fault),
+        Moved::To(c) => token_at(text, c, cursor.offset < c.offset, field),
+    }
+}
+
+// What either call answers at a valid cursor.
+fn answer_at(text: &[u8], cursor: Cursor, field: bool) -> Answer
+    requires { ⌜ Valid (length (now text)) cursor ⌝ }
+    ensures { λ r. ⌜ r ≡ answered (now (text .entry)) cursor (readLexeme field (now (text .entry)) (cursor .offset)) ⌝ }
+{
+    match read_token(text, cursor, field) {
+        Found::Refused(fault) => Answer::Refused { fault, cursor },
+        Found::Whole {
+            token,
+            spelling: _,
+            next,
+        } => Answer::Read { token, next },
+    }
+}
+
+// What either call answers.
+fn answer_in(text: &[u8], cursor: Cursor, field: bool) -> Answer
+    ensures { λ r. ⌜ r ≡ call field (now (text .entry)) cursor ⌝ }
+{
+    if is_valid(text.len(), cursor) {
+        return answer_at(text, cursor, field);
+    }
+    Answer::Refused {
+        fault: not_valid(),
+        cursor,
+    }
+}
+
+// Refusal 8.
+pub(crate) fn not_valid() -> Fault
+    ensures { λ r. ⌜ r ≡ notValid ⌝ }
+{
+    Fault {
+        refusal: Refusal::NotValid,
+        offset: 0,
+    }
+}
+
+// The token call.
+pub fn next_token(text: &[u8], cursor: Cursor) -> Answer
+    ensures { λ r. ⌜ r ≡ nextToken (now (text .entry)) cursor ⌝ }
+{
+    answer_in(text, cursor, false)
+}
+
+// The number call: the token of a field, where a number may reach the end of the text.
+pub fn next_number_token(text: &[u8], cursor: Cursor) -> Answer
+    ensures { λ r. ⌜ r ≡ nextNumberToken (now (text .entry)) cursor ⌝ }
+{
+    answer_in(text, cursor, true)
+}
