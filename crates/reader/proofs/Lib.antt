@@ -1,0 +1,10 @@
+pub mod Basics
+pub mod Complete
+pub mod Sound
+pub mod Unique
+pub mod Table
+pub mod Size
+pub mod Answer
+pub mod Theorems
+pub mod Needed
+pub mod Specimens

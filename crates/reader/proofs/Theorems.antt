@@ -1,0 +1,63 @@
+-- What is proved of the grammar and the machine, for every admitted table. Statements only: each cites its proof. Assumes nothing.
+use Prim.Native.Nat.{ℕ, _+_, _*_, _≤_, _<_}
+use mathlib.Core.Path.{_≡_}
+use mathlib.Core.Bool.{true}
+use mathlib.Core.Logic.{_⊎_, _↔_}
+use mathlib.Core.Option.{some}
+use mathlib.Core.List.{List}
+use lib.ListN.{length}
+use Rattle.reader.specs.Token.{Tok, sameText}
+use Rattle.reader.specs.Ops.{Table, operators}
+use Rattle.reader.specs.Admitted.{admits}
+use Rattle.reader.specs.Tree.{Tree, packed, numbers}
+use Rattle.reader.specs.Grammar.{Clause}
+use Rattle.reader.specs.Machine.{Out, done, run, start, answer}
+use Rattle.reader.proofs.Table.{same-exactly, fair, operators-admitted}
+use Rattle.reader.proofs.Answer.{answer-complete, answer-sound, one-tree, reads?, tree-small}
+use Rattle.reader.proofs.Specimens.{All, table, specimens}
+use Rattle.reader.proofs.Size.{Numbered, framesIn, nodesIn, words-fit, places-fit, nodes-fit}
+
+-- Document 01's table is admitted.
+pub table-admitted : admits operators ≡ true
+table-admitted = operators-admitted
+
+module _ (T : Table) (admitted : admits T ≡ true) where
+  -- Completeness: a reading makes the machine accept with that reading's numbers.
+  pub completeness : {ts : List Tok} {t : Tree} → Clause T ts t → answer (run packed T start ts) ≡ some (numbers t)
+  completeness = answer-complete T (fair T admitted)
+
+  -- Soundness: what the machine accepts has a reading with those numbers.
+  pub soundness : (ts : List Tok) (ns : List ℕ) → answer (run packed T start ts) ≡ some ns → (t : Tree) × Clause T ts t × (numbers t ≡ ns)
+  soundness = answer-sound T (fair T admitted)
+
+  -- Unambiguity: no clause has two readings.
+  pub unambiguity : {ts : List Tok} {t u : Tree} → Clause T ts t → Clause T ts u → t ≡ u
+  unambiguity = one-tree T (fair T admitted)
+
+  -- Decidability: there is a reading, or there is none.
+  pub decidability : (ts : List Tok) → ((t : Tree) × Clause T ts t) ⊎ ((t : Tree) → Clause T ts t → ⊥)
+  decidability = reads? T (fair T admitted)
+
+  -- Size: a tree has two numbers a node and fewer nodes than its clause has tokens, so of 1,024 tokens at most 1,023.
+  pub size-tree : {ts : List Tok} {t : Tree} → Clause T ts t → length (numbers t) + 2 ≤ 2 * length ts
+  size-tree = tree-small T (fair T admitted)
+
+-- Size, for any table: after n tokens frames and nodes take n + 1 words at most, and no frame has a greater place number. The 1,024th token is the
+-- end mark, or the clause is refused, so arrays of 1,024 serve.
+module _ (T : Table) (ts : List Tok) where
+  pub size-words : length (framesIn (run packed T start ts)) + length (nodesIn (run packed T start ts)) ≤ length ts + 1
+  size-words = words-fit packed T ts
+
+  pub size-places : Numbered (length ts + 1) (framesIn (run packed T start ts))
+  size-places = places-fit packed T ts
+
+  pub size-nodes : (out : Out) → run packed T start ts ≡ done out → length out < length ts
+  size-nodes = nodes-fit packed T ts
+
+-- Two names are the same exactly if their texts are.
+pub names-by-text : (x y : List ℕ) → (sameText x y ≡ true) ↔ (x ≡ y)
+names-by-text = same-exactly
+
+-- Document 01's clause specimens, under its table.
+pub document-01 : All table
+document-01 = specimens
