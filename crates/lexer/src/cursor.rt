@@ -25,7 +25,7 @@ pub enum Moved {
 const LONGEST: usize = 65535;
 
 // Whether a text of `n` bytes is not too long and the cursor is valid in it.
-pub(crate) fn is_valid(n: usize, c: Cursor) -> bool
+pub fn is_valid(n: usize, c: Cursor) -> bool
     ensures { λ r. ⌜ r ≡ valid n c ⌝ }
 {
     if LONGEST < n {

@@ -14,6 +14,7 @@ mod text;
 mod token;
 
 pub use cursor::Cursor;
+pub use cursor::is_valid;
 pub use kind::Kind;
 pub use kind::Value;
 pub use refusal::Fault;

@@ -1,0 +1,72 @@
+-- What an answer of the token call or of the number call tells whoever reads on from it. Assumes nothing.
+use mathlib.Core.Path.{_≡_, refl, sym, _∙_, ap}
+use mathlib.Core.Bool.{Bool, true, false, cond}
+use mathlib.Core.List.{List}
+use Prim.Native.Nat.{ℕ, _<_, _≤_}
+use native.Mathlib.Omega.{arith}
+use borrow.Author.Tests.{le-leb}
+use lib.ListN.{length}
+use Rattle.lexer.specs.Cursor.{longest, moveTo, valid, Valid}
+use Rattle.lexer.specs.Token.{Lexeme, lexeme, refused, readLexeme, answered, notValid, call}
+use Rattle.lexer.specs.declared.refusal.Fault.{Fault}
+use Rattle.lexer.specs.declared.cursor.Cursor.{Cursor}
+use Rattle.lexer.specs.declared.token.Token.{Token}
+use Rattle.lexer.specs.declared.token.Answer.{Answer}
+use Rattle.lexer.proofs.Cursors.{is-valid, move-offset, move-valid}
+use Rattle.lexer.proofs.Promises.{lexeme-ends}
+
+-- the token t was read at the cursor c of the text s, and the cursor d stands behind it
+pub record Promised (s : List ℕ) (c : Cursor) (t : Token) (d : Cursor) : Type 0 where
+  pub from : Valid (length s) c
+  pub behind : c .offset ≤ t .start
+  pub ahead : t .start < d .offset
+  pub inside : d .offset ≤ length s
+  pub further : c .offset < d .offset
+  pub next : Valid (length s) d
+  pub next-passes : valid (length s) d ≡ true
+
+-- the test of a cursor, from its facts
+passes : (n : ℕ) (c : Cursor) → Valid n c → valid n c ≡ true
+unfolding valid
+passes n c v =
+    cc (le-leb n longest (v .short), le-leb (c .offset) n (v .offset), le-leb (c .line) (c .offset) (v .line), le-leb (c .column) (c .offset) (v .column))
+
+module _ (field : Bool) (s : List ℕ) (c : Cursor) where
+  answer : Bool → Lexeme → Answer
+  answer b l = cond b (answered s c l) (Answer.Refused notValid c)
+
+  of-answer : (t : Token) (d : Cursor) (b : Bool) (l : Lexeme) → valid (length s) c ≡ b → readLexeme field s (c .offset) ≡ l → answer b l ≡ Answer.Read t d → Promised s c t d
+  unfolding answer answered
+  of-answer t d false l f g h = let z : _≡_ {A = ℕ} 0 1 = cc in absurd (omega arith)
+  of-answer t d true (refused w) f g h = let z : _≡_ {A = ℕ} 0 1 = cc in absurd (omega arith)
+  of-answer t d true (lexeme u e x) f g h =
+      let v = is-valid (length s) c f in
+      let q : u ≡ t = cc in
+      let m : moveTo s c e ≡ d = cc in
+      let p = lexeme-ends field s (c .offset) t e x (v .offset) (cc) in
+      let k : c .offset ≤ e = omega (arith, p .behind, p .ahead) in
+      let o : e ≡ d .offset = sym (move-offset s c e k (p .inside)) ∙ ap (λ (y : Cursor). y .offset) m in
+      let n : Valid (length s) d = rw m at (move-valid s c e k (p .inside) v) in
+      record {
+        from = v;
+        behind = p .behind;
+        ahead = omega (arith, p .ahead, o);
+        inside = n .offset;
+        further = omega (arith, p .behind, p .ahead, o);
+        next = n;
+        next-passes = passes (length s) d n;
+      }
+
+  pub read-promises : (t : Token) (d : Cursor) → call field s c ≡ Answer.Read t d → Promised s c t d
+  unfolding answer
+  read-promises t d h = of-answer t d (valid (length s) c) (readLexeme field s (c .offset)) refl refl h
+
+  of-refusal : (w : Fault) (d : Cursor) (b : Bool) (l : Lexeme) → answer b l ≡ Answer.Refused w d → d ≡ c
+  unfolding answer answered
+  of-refusal w d false l h = cc
+  of-refusal w d true (refused v) h = cc
+  of-refusal w d true (lexeme u e x) h = let z : _≡_ {A = ℕ} 0 1 = cc in absurd (omega arith)
+
+  pub refused-here : (w : Fault) (d : Cursor) → call field s c ≡ Answer.Refused w d → d ≡ c
+  unfolding answer
+  refused-here w d h = of-refusal w d (valid (length s) c) (readLexeme field s (c .offset)) h

@@ -1,0 +1,73 @@
+-- Document 01's starred specimens of tokens, as one table that antt computes from the definition. Assumes nothing.
+use Prim.Native.Nat.{ℕ}
+use Prim.Native.Char.{code}
+use Prim.Native.String
+use Prim.Native.String.{String}
+use mathlib.Core.Path.{_≡_, refl}
+use mathlib.Core.Bool.{false}
+use mathlib.Core.List.{List, [], _∷_, map}
+use lib.IntN.{pos}
+use lib.Ieee.{fin, round}
+use Rattle.lexer.specs.Chars.{classOf}
+use Rattle.lexer.specs.Cursor.{walk, moveTo, valid}
+use Rattle.lexer.specs.Digits.{digitOf, digits}
+use Rattle.lexer.specs.Float.{scale, withinLimits}
+use Rattle.lexer.specs.Items.{after, items}
+use Rattle.lexer.specs.Layout.{past, commentOpened, slashed, layoutTextOf, layoutTurn}
+use Rattle.lexer.specs.Look.{front, needed}
+use Rattle.lexer.specs.Name.{runEnd, runToken, nameToken}
+use Rattle.lexer.specs.Number.{radixClosed, radixTo, characterCode, zeroTo, exponentEnds, signTo, letterTo, exponentTo, float, pointTo, integerTo}
+use Rattle.lexer.specs.Quoted.{quoteTo, itemTo}
+use Rattle.lexer.specs.Refusal.{fault}
+use Rattle.lexer.specs.Token.{floated, valued, numbered, plainToken, token, plainLexeme, lexemeTo, afterLayout, answered, nextToken}
+use Rattle.lexer.specs.declared.refusal.Refusal.{Refusal}
+use Rattle.lexer.specs.declared.refusal.Refusal.the-variants.{EndOfText, UnclosedComment, OutOfLimit}
+use Rattle.lexer.specs.declared.cursor.Cursor.{Cursor}
+use Rattle.lexer.specs.declared.kind.Kind.the-variants.{Name, Number}
+use Rattle.lexer.specs.declared.kind.Kind.{Kind}
+use Rattle.lexer.specs.declared.kind.Value.{Value}
+use Rattle.lexer.specs.declared.kind.Value.the-variants.{Integer, Float, Nothing}
+use Rattle.lexer.specs.declared.token.Answer.{Answer}
+
+-- the bytes of a text
+abbrev bytes : String → List ℕ
+bytes String.[] = []
+bytes (String._∷_ c s) = code c ∷ bytes s
+
+-- the cursor at an offset of the first line
+abbrev at : ℕ → Cursor
+at n = record { offset = n; line = 0; column = n }
+
+-- the token call on a text, at an offset
+abbrev from : ℕ → String → Answer
+from n s = nextToken (bytes s) (at n)
+
+-- a token from one offset to another, or a refusal and its offset at the start of the text
+abbrev read : ℕ → ℕ → Kind → Value → Answer
+read n e k v = Answer.Read (token k v n) (at e)
+
+abbrev refused : Refusal → ℕ → Answer
+refused r n = Answer.Refused (fault r n) (at 0)
+
+-- what the definition answers, and what 01 says
+abbrev pub table : List (Answer × Answer)
+table =
+    (from 0 "0xg", read 0 1 Number (Integer 0))
+    ∷ (from 0 "0x", refused EndOfText 2)
+    ∷ (from 0 "0x1F", read 0 4 Number (Integer 31))
+    ∷ (from 0 "00x1", read 0 2 Number (Integer 0))
+    ∷ (from 0 "1.", read 0 1 Number (Integer 1))
+    ∷ (from 0 "1.0e+", read 0 3 Number (Float (fin false 1 (pos 0))))
+    ∷ (from 0 "0''x", read 0 1 Number (Integer 0))
+    ∷ (from 0 "0'''", read 0 4 Number (Integer 39))
+    ∷ (from 0 "/*", refused EndOfText 2)
+    ∷ (from 0 "/* ", refused UnclosedComment 0)
+    ∷ (from 0 "9223372036854775808 ", refused OutOfLimit 0)
+    -- the readings that a hurried port gets wrong
+    ∷ (from 0 "/*/", refused UnclosedComment 0)
+    ∷ (from 1 "X=/*c*/Y", read 1 4 Name Nothing)
+    ∷ []
+
+pub specimens : map (λ (r : Answer × Answer). r .0) table ≡ map (λ (r : Answer × Answer). r .1) table
+unfolding classOf walk moveTo valid digitOf digits scale withinLimits round after items past commentOpened slashed layoutTextOf layoutTurn front needed runEnd runToken nameToken radixClosed radixTo characterCode zeroTo exponentEnds signTo letterTo exponentTo float pointTo integerTo quoteTo itemTo floated valued numbered plainToken plainLexeme lexemeTo afterLayout answered
+specimens = refl

@@ -1,0 +1,112 @@
+-- What an answer of the text call tells: the token that the token call reads, where its text is, what is left of the scratch. Assumes nothing.
+use mathlib.Core.Path.{_≡_, refl, sym, _∙_}
+use mathlib.Core.Bool.{Bool, true, false, cond}
+use mathlib.Core.List.{List, [], _++_}
+use Prim.Native.Nat.{ℕ, _+_, _-_, _≤_}
+use native.Mathlib.Omega.{arith}
+use borrow.Author.Tests.{leb-true, le-leb}
+use lib.Dec.{leb}
+use lib.ListN.{length, drop}
+use lib.Seq.{sets, length-sets, sets-eq, take-append-seam, drop-append-seam}
+use Rattle.lexer.specs.Cursor.{part, moveTo, valid}
+use Rattle.lexer.specs.Text.{Outcome, leaves, textTold, nextTokenText, fitted, shown}
+use Rattle.lexer.specs.Token.{source, decoded, none, Lexeme, lexeme, refused, readLexeme, answered, notValid, nextToken}
+use Rattle.lexer.specs.declared.refusal.Fault.{Fault}
+use Rattle.lexer.specs.declared.cursor.Cursor.{Cursor}
+use Rattle.lexer.specs.declared.token.Token.{Token}
+use Rattle.lexer.specs.declared.token.Answer.{Answer}
+use Rattle.lexer.specs.declared.text.Part.{Part}
+use Rattle.lexer.specs.declared.text.TextAnswer.the-variants.{Read, Refused}
+use Rattle.lexer.proofs.Cursors.{is-valid}
+use Rattle.lexer.proofs.Promises.{lexeme-ends}
+
+-- the bytes of a token's text
+abbrev pub textBytes : List ℕ → Lexeme → List ℕ
+textBytes s (lexeme t e source) = part (t .start) e s
+textBytes s (lexeme t e (decoded bs)) = bs
+textBytes s (lexeme t e none) = []
+textBytes s (refused w) = []
+
+-- of the scratch d, left as x, at most the bytes of the part are written
+abbrev pub OnlyPart : List ℕ → List ℕ → Part → Type 0
+OnlyPart d x (Part.Source a e) = x ≡ d
+OnlyPart d x (Part.Scratch a e) = (length x ≡ length d) × ((a ≡ 0) × (drop e x ≡ drop e d))
+
+-- the token t at the cursor c, with the cursor behind it, and its text
+pub record Told (s : List ℕ) (c : Cursor) (d : List ℕ) (t : Token) (next : Cursor) (p : Part) (x : List ℕ) : Type 0 where
+  pub token : nextToken s c ≡ Answer.Read t next
+  pub text : shown s x p ≡ textBytes s (readLexeme false s (c .offset))
+  pub kept : OnlyPart d x p
+
+-- ---- a part of the text, and bytes that were written
+fitted-part : (a e : ℕ) (s : List ℕ) → a ≤ e → e ≤ length s → fitted a e s ≡ part a e s
+unfolding fitted
+fitted-part a e s h k = cc (le-leb a e h, le-leb e (length s) k)
+
+module _ (d bs : List ℕ) (h : length bs ≤ length d) where
+  written : sets d 0 bs ≡ bs ++ drop (length bs) d
+  written = let m : 0 + length bs ≡ length bs = omega arith in rw m at (sets-eq bs d 0 (omega arith))
+
+  written-part : fitted 0 (length bs) (sets d 0 bs) ≡ bs
+  written-part =
+      let m : length bs - 0 ≡ length bs = omega arith in
+      fitted-part 0 (length bs) (sets d 0 bs) (omega arith) (omega (arith, length-sets d 0 bs))
+      ∙ rw (m, written) (take-append-seam bs (drop (length bs) d))
+
+  written-only : OnlyPart d (sets d 0 bs) (Part.Scratch 0 (length bs))
+  written-only = (length-sets d 0 bs, (refl, rw written (drop-append-seam bs (drop (length bs) d))))
+
+-- ---- the call
+module _ (s : List ℕ) (c : Cursor) (d : List ℕ) where
+  called : Bool → Lexeme → Outcome
+  called b l = cond b (textTold s c d l) (leaves (Refused notValid c) d)
+
+  record Tells (b : Bool) (l : Lexeme) (t : Token) (next : Cursor) (p : Part) (x : List ℕ) : Type 0 where
+    token : cond b (answered s c l) (Answer.Refused notValid c) ≡ Answer.Read t next
+    text : shown s x p ≡ textBytes s l
+    kept : OnlyPart d x p
+
+  -- a quoted item, where there is room or not
+  decoded-tells : (b : Bool) (u : Token) (e : ℕ) (bs : List ℕ) (w : Fault) → leb (length bs) (length d) ≡ b → (t : Token) (next : Cursor) (p : Part) (x : List ℕ) → cond b (leaves (Read u (moveTo s c e) (Part.Scratch 0 (length bs))) (sets d 0 bs)) (leaves (Refused w c) d) ≡ leaves (Read t next p) x → Tells true (lexeme u e (decoded bs)) t next p x
+  unfolding answered shown
+  decoded-tells false u e bs w f t next p x h = let z : _≡_ {A = ℕ} 0 1 = cc in absurd (omega arith)
+  decoded-tells true u e bs w f t next p x h =
+      let r = leb-true (length bs) (length d) f in
+      let q : Part.Scratch 0 (length bs) ≡ p = cc in
+      let y : sets d 0 bs ≡ x = cc in
+      record { token = cc; text = rw (sym q, sym y) (written-part d bs r); kept = rw (sym q, sym y) (written-only d bs r) }
+
+  tells : (b : Bool) (l : Lexeme) → valid (length s) c ≡ b → readLexeme false s (c .offset) ≡ l → (t : Token) (next : Cursor) (p : Part) (x : List ℕ) → called b l ≡ leaves (Read t next p) x → Tells b l t next p x
+  unfolding called textTold answered shown
+  tells false l f g t next p x h = let z : _≡_ {A = ℕ} 0 1 = cc in absurd (omega arith)
+  tells true (refused w) f g t next p x h = let z : _≡_ {A = ℕ} 0 1 = cc in absurd (omega arith)
+  tells true (lexeme u e none) f g t next p x h = let z : _≡_ {A = ℕ} 0 1 = cc in absurd (omega arith)
+  tells true (lexeme u e (decoded bs)) f g t next p x h = decoded-tells (leb (length bs) (length d)) u e bs _ refl t next p x h
+  tells true (lexeme u e source) f g t next p x h =
+      let q : Part.Source (u .start) e ≡ p = cc in
+      let y : d ≡ x = cc in
+      let b = lexeme-ends false s (c .offset) u e source (is-valid (length s) c f .offset) g in
+      record { token = cc; text = rw (sym q) (fitted-part (u .start) e s (omega (arith, b .ahead)) (b .inside)); kept = rw (sym q) (sym y) }
+
+  pub text-told : (t : Token) (next : Cursor) (p : Part) (x : List ℕ) → nextTokenText s c d ≡ leaves (Read t next p) x → Told s c d t next p x
+  unfolding called
+  text-told t next p x h =
+      let r = tells (valid (length s) c) (readLexeme false s (c .offset)) refl refl t next p x h in
+      record { token = r .token; text = r .text; kept = r .kept }
+
+  -- ---- a refusal leaves cursor and scratch as they were
+  no-room : (b : Bool) (u : Token) (m : Cursor) (q : Part) (v w : Fault) (e : Cursor) (x y : List ℕ) → cond b (leaves (Read u m q) y) (leaves (Refused v c) d) ≡ leaves (Refused w e) x → (e ≡ c) × (x ≡ d)
+  no-room true u m q v w e x y h = let z : _≡_ {A = ℕ} 0 1 = cc in absurd (omega arith)
+  no-room false u m q v w e x y h = (cc, cc)
+
+  left : (w : Fault) (e : Cursor) (x : List ℕ) (b : Bool) (l : Lexeme) → called b l ≡ leaves (Refused w e) x → (e ≡ c) × (x ≡ d)
+  unfolding called textTold
+  left w e x false l h = (cc, cc)
+  left w e x true (refused v) h = (cc, cc)
+  left w e x true (lexeme u n source) h = let z : _≡_ {A = ℕ} 0 1 = cc in absurd (omega arith)
+  left w e x true (lexeme u n none) h = (cc, cc)
+  left w e x true (lexeme u n (decoded bs)) h = no-room (leb (length bs) (length d)) u (moveTo s c n) _ _ w e x _ h
+
+  pub nothing-left : (w : Fault) (e : Cursor) (x : List ℕ) → nextTokenText s c d ≡ leaves (Refused w e) x → (e ≡ c) × (x ≡ d)
+  unfolding called
+  nothing-left w e x h = left w e x (valid (length s) c) (readLexeme false s (c .offset)) h

@@ -1,0 +1,127 @@
+-- What holds of this crate, in a reader's order: statements, each with the proof that it cites. The calls' contracts, in `src/`, say that each call answers
+-- as its definition in `specs/` does; this page says what the definitions come to. Assumes nothing.
+use mathlib.Core.Path.{_≡_, sym, _∙_}
+use mathlib.Core.Bool.{Bool, true, false}
+use mathlib.Core.List.{List, [], _∷_, map}
+use Prim.Native.Nat.{ℕ, _+_, _-_, _<_, _≤_}
+use lib.Ieee.{Float}
+use lib.ListN.{length, getD}
+use Rattle.lexer.specs.Chars.{is, foreignByte}
+use Rattle.lexer.specs.Float.{Limits, Scale, scale, over, under, floatValue}
+use Rattle.lexer.specs.Layout.{commentText}
+use Rattle.lexer.specs.Nearest.{Nearest}
+use Rattle.lexer.specs.Refusal.{numberOf, fault}
+use Rattle.lexer.specs.Text.{leaves, nextTokenText, shown}
+use Rattle.lexer.specs.Token.{nextToken, nextNumberToken}
+use Rattle.lexer.specs.declared.refusal.Fault.{Fault}
+use Rattle.lexer.specs.declared.refusal.Refusal.{Refusal}
+use Rattle.lexer.specs.declared.refusal.Refusal.the-variants.{UnclosedComment, ForeignByte}
+use Rattle.lexer.specs.declared.cursor.Cursor.{Cursor}
+use Rattle.lexer.specs.declared.cursor.Scan.{Scan}
+use Rattle.lexer.specs.declared.float.Floated.{Floated}
+use Rattle.lexer.specs.declared.text.Part.{Part}
+use Rattle.lexer.specs.declared.text.TextAnswer.{TextAnswer}
+use Rattle.lexer.specs.declared.token.Token.{Token}
+use Rattle.lexer.specs.declared.token.Answer.{Answer}
+use Rattle.lexer.proofs.Calls.{Promised, read-promises, refused-here}
+use Rattle.lexer.proofs.FirstMark.{Clear, First, first-mark, mark-first, clear-end, clear-foreign}
+use Rattle.lexer.proofs.Refusals.{all, numbers, number-once}
+use Rattle.lexer.proofs.Specimens.{table, specimens}
+use Rattle.lexer.proofs.TextCalls.{Told, text-told, nothing-left}
+use Rattle.lexer.proofs.float.Values.{Exact, value-says, says-value, scale-exact}
+
+-- ---- 01: "two permitted outcomes coincide"
+
+-- of a call whose contract is `answer ≡ definition`
+pub coincide : {A : Type 0} (definition a b : A) → a ≡ definition → b ≡ definition → a ≡ b
+coincide definition a b p q = p ∙ sym q
+
+module _ (s : List ℕ) (c : Cursor) where
+  -- the token call and the number call
+  pub token-coincides : (a b : Answer) → a ≡ nextToken s c → b ≡ nextToken s c → a ≡ b
+  token-coincides = coincide (nextToken s c)
+
+  pub number-coincides : (a b : Answer) → a ≡ nextNumberToken s c → b ≡ nextNumberToken s c → a ≡ b
+  number-coincides = coincide (nextNumberToken s c)
+
+  -- the text call: its answer, and what it leaves in the scratch d
+  pub text-coincides : (d : List ℕ) (a b : TextAnswer) (x y : List ℕ) → leaves a x ≡ nextTokenText s c d → leaves b y ≡ nextTokenText s c d → (a ≡ b) × (x ≡ y)
+  text-coincides d a b x y p q = let e = coincide (nextTokenText s c d) (leaves a x) (leaves b y) p q in (cc, cc)
+
+-- the show call
+pub show-coincides : (s d : List ℕ) (p : Part) (a b : List ℕ) → a ≡ shown s d p → b ≡ shown s d p → a ≡ b
+show-coincides s d p = coincide (shown s d p)
+
+-- a refusal's number
+pub refusal-coincides : (r : Refusal) (a b : ℕ) → a ≡ numberOf r → b ≡ numberOf r → a ≡ b
+refusal-coincides r = coincide (numberOf r)
+
+-- ---- what the clause reader relies on
+module _ (s : List ℕ) (c : Cursor) where
+  -- the text is not too long and the cursor is valid; the token starts at or after the cursor and ends behind its start, within the text, where the new
+  -- cursor stands, which is valid and further on
+  pub token-promises : (t : Token) (next : Cursor) → nextToken s c ≡ Answer.Read t next → Promised s c t next
+  token-promises = read-promises false s c
+
+  pub number-promises : (t : Token) (next : Cursor) → nextNumberToken s c ≡ Answer.Read t next → Promised s c t next
+  number-promises = read-promises true s c
+
+  -- the text call reads what the token call reads, the show call hands its text back, and no more of the scratch than that is written
+  pub text-promises : (d : List ℕ) (t : Token) (next : Cursor) (p : Part) (x : List ℕ) → nextTokenText s c d ≡ leaves (TextAnswer.Read t next p) x → Told s c d t next p x
+  text-promises = text-told s c
+
+  -- 01: "a refusal returns the caller's cursor"; it leaves the scratch as it was
+  pub token-refused : (w : Fault) (back : Cursor) → nextToken s c ≡ Answer.Refused w back → back ≡ c
+  token-refused = refused-here false s c
+
+  pub number-refused : (w : Fault) (back : Cursor) → nextNumberToken s c ≡ Answer.Refused w back → back ≡ c
+  number-refused = refused-here true s c
+
+  pub text-refused : (d : List ℕ) (w : Fault) (back : Cursor) (x : List ℕ) → nextTokenText s c d ≡ leaves (TextAnswer.Refused w back) x → (back ≡ c) × (x ≡ d)
+  text-refused = nothing-left s c
+
+-- ---- 01: "the comment ends at the first star that a slash follows; comments do not nest"
+module _ (s : List ℕ) (o : ℕ) where
+  -- the comment whose slash is at o ends at e: then the first such star behind its opening mark is at e - 2
+  pub comment-ends-first : (e : ℕ) → commentText s o ≡ Scan.Stop e → First s (o + 2) (e - 2)
+  comment-ends-first = first-mark s o
+
+  -- and the other way round
+  pub first-ends-comment : (i : ℕ) → First s (o + 2) i → commentText s o ≡ Scan.Stop (i + 2)
+  first-ends-comment = mark-first s o
+
+  -- without such a star it is refusal 2, with a foreign byte before it refusal 5
+  pub comment-unclosed : o + 2 ≤ length s → Clear s (o + 2) (length s) → commentText s o ≡ Scan.Refused (fault UnclosedComment o)
+  comment-unclosed = clear-end s o
+
+  pub comment-foreign : (i : ℕ) → o + 2 ≤ i → i < length s → Clear s (o + 2) i → is foreignByte (getD s i 0) ≡ true → commentText s o ≡ Scan.Refused (fault ForeignByte i)
+  comment-foreign = clear-foreign s o
+
+-- ---- 01: "the value is the one double nearest to m times ten to the e, ties to even"
+
+-- a float token with the digits m, f of them its fraction, and the exponent x, or -x after a minus
+module _ (m : ℕ) (minus : Bool) (x f : ℕ) where
+  abbrev e : Scale
+  e = scale minus x f
+
+  -- it has the value v just where m and e are within the limits and v is nearest; no operation on floats is named in `Nearest`
+  pub float-is-nearest : (v : Float) → floatValue m minus x f ≡ Floated.Value v → Limits m e × Nearest v (over m e) (under e)
+  float-is-nearest = value-says m e
+
+  pub nearest-is-float : (v : Float) → Limits m e → Nearest v (over m e) (under e) → floatValue m minus x f ≡ Floated.Value v
+  nearest-is-float = says-value m e
+
+  -- over / under is m times ten to the x, or by it after a minus, by ten to the f
+  pub float-exact : Exact m x f minus e
+  float-exact = scale-exact m x f minus
+
+-- ---- 01's table of refusals: the numbers from 1 to 12, each once
+pub refusals-in-order : map numberOf all ≡ 1 ∷ 2 ∷ 3 ∷ 4 ∷ 5 ∷ 6 ∷ 7 ∷ 8 ∷ 9 ∷ 10 ∷ 11 ∷ 12 ∷ []
+refusals-in-order = numbers
+
+pub refusals-apart : (r q : Refusal) → numberOf r ≡ numberOf q → r ≡ q
+refusals-apart = number-once
+
+-- ---- 01: the starred specimens "are proved as a single table"
+pub token-specimens : map (λ (r : Answer × Answer). r .0) table ≡ map (λ (r : Answer × Answer). r .1) table
+token-specimens = specimens

@@ -1,0 +1,179 @@
+// The calls, and their answers as lines.
+use crate::output::put;
+use crate::output::put_bits;
+use crate::output::put_bytes;
+use crate::output::put_number;
+use crate::output::put_pairs;
+use lexer::Answer;
+use lexer::Cursor;
+use lexer::Fault;
+use lexer::Kind;
+use lexer::TextAnswer;
+use lexer::Token;
+use lexer::Value;
+ghost use Prim.Native.Nat.{_≤_};
+ghost use Rattle.probe.specs.Room.{largestRoom};
+
+pub const LARGEST_ROOM: usize = 4096;
+// What the lent scratch holds before the call.
+const FILL: u8 = 165;
+
+fn put_kind(out: &mut [u8], filled: usize, kind: Kind) -> usize {
+    match kind {
+        Kind::Name => put_bytes(out, filled, b"name"),
+        Kind::Variable => put_bytes(out, filled, b"variable"),
+        Kind::String => put_bytes(out, filled, b"string"),
+        Kind::Number => put_bytes(out, filled, b"number"),
+        Kind::Open => put_bytes(out, filled, b"open"),
+        Kind::OpenCT => put_bytes(out, filled, b"open_ct"),
+        Kind::Close => put_bytes(out, filled, b"close"),
+        Kind::OpenList => put_bytes(out, filled, b"open_list"),
+        Kind::CloseList => put_bytes(out, filled, b"close_list"),
+        Kind::OpenCurly => put_bytes(out, filled, b"open_curly"),
+        Kind::CloseCurly => put_bytes(out, filled, b"close_curly"),
+        Kind::HeadTailSeparator => put_bytes(out, filled, b"bar"),
+        Kind::DoubleBar => put_bytes(out, filled, b"double_bar"),
+        Kind::Comma => put_bytes(out, filled, b"comma"),
+        Kind::End => put_bytes(out, filled, b"end"),
+    }
+}
+
+fn put_cursor(out: &mut [u8], filled: usize, cursor: Cursor) -> usize {
+    let with_offset = put_number(out, filled, cursor.offset as u64);
+    let with_line = put_number(out, with_offset, cursor.line as u64);
+    put_number(out, with_line, cursor.column as u64)
+}
+
+// The bits of a token's value. A NaN has no fixed bits, and the lexer hands none out: the test stands in for a proof of that.
+fn bits(x: f64) -> u64 {
+    if x == x {
+        return f64::to_bits(x);
+    }
+    0
+}
+
+fn put_value(out: &mut [u8], filled: usize, value: Value) -> usize {
+    match value {
+        Value::Nothing => put_bytes(out, filled, b" -"),
+        Value::Integer(n) => put_number(out, filled, n),
+        Value::Float(x) => {
+            let marked = put_bytes(out, filled, b" f");
+            put_bits(out, marked, bits(x))
+        }
+    }
+}
+
+// What a `token` and a `text` line share: KIND START OFFSET LINE COLUMN.
+fn put_token(out: &mut [u8], filled: usize, token: Token, next: Cursor) -> usize {
+    let spaced = put(out, filled, b' ');
+    let kind = token.kind;
+    let with_kind = put_kind(out, spaced, kind);
+    let with_start = put_number(out, with_kind, token.start as u64);
+    put_cursor(out, with_start, next)
+}
+
+fn token_line(out: &mut [u8], filled: usize, token: Token, next: Cursor) -> usize {
+    let named = put_bytes(out, filled, b"token");
+    let with_token = put_token(out, named, token, next);
+    let value = token.value;
+    let with_value = put_value(out, with_token, value);
+    put(out, with_value, b'\n')
+}
+
+fn refused_line(out: &mut [u8], filled: usize, fault: Fault, cursor: Cursor) -> usize {
+    let named = put_bytes(out, filled, b"refused");
+    let refusal = fault.refusal;
+    let numbered = put_number(out, named, lexer::refusal_number(refusal) as u64);
+    let with_offset = put_number(out, numbered, fault.offset as u64);
+    let with_cursor = put_cursor(out, with_offset, cursor);
+    put(out, with_cursor, b'\n')
+}
+
+fn scratch_line(out: &mut [u8], filled: usize, scratch: &[u8]) -> usize {
+    let named = put_bytes(out, filled, b"scratch ");
+    let with_bytes = put_pairs(out, named, scratch);
+    put(out, with_bytes, b'\n')
+}
+
+// The answer of the token call or of the number call.
+fn answer_line(out: &mut [u8], filled: usize, answer: Answer) -> usize {
+    match answer {
+        Answer::Read { token, next } => token_line(out, filled, token, next),
+        Answer::Refused { fault, cursor } => refused_line(out, filled, fault, cursor),
+    }
+}
+
+// Token calls, each from the cursor that the last one gave, until one is refused. Each cursor stands behind the one before, so a refusal comes.
+fn token_lines(out: &mut [u8], filled: usize, text: &[u8], cursor: Cursor) -> usize {
+    let mut at = cursor;
+    let mut now_filled = filled;
+    loop {
+        let answer = lexer::next_token(text, at);
+        now_filled = answer_line(out, now_filled, answer);
+        match answer {
+            Answer::Read { token: _, next } => at = next,
+            Answer::Refused {
+                fault: _,
+                cursor: _,
+            } => return now_filled,
+        }
+    }
+}
+
+fn text_line(out: &mut [u8], filled: usize, token: Token, next: Cursor, shown: &[u8]) -> usize {
+    let named = put_bytes(out, filled, b"text");
+    let with_token = put_token(out, named, token, next);
+    let spaced = put(out, with_token, b' ');
+    let with_text = put_pairs(out, spaced, shown);
+    put(out, with_text, b'\n')
+}
+
+// The text call and the show call, with this scratch.
+fn text_lines(
+    out: &mut [u8],
+    filled: usize,
+    text: &[u8],
+    cursor: Cursor,
+    scratch: &mut [u8],
+) -> usize {
+    match lexer::next_token_text(text, cursor, scratch) {
+        TextAnswer::Read { token, next, part } => {
+            let line = text_line(out, filled, token, next, lexer::show(text, scratch, part));
+            scratch_line(out, line, scratch)
+        }
+        TextAnswer::Refused {
+            fault,
+            cursor: back,
+        } => {
+            let line = refused_line(out, filled, fault, back);
+            scratch_line(out, line, scratch)
+        }
+    }
+}
+
+fn text_case(out: &mut [u8], filled: usize, text: &[u8], cursor: Cursor, room: usize) -> usize
+    requires { ⌜ room ≤ largestRoom ⌝ }
+{
+    let mut scratch = [FILL; LARGEST_ROOM];
+    text_lines(out, filled, text, cursor, &mut scratch[0..room])
+}
+
+// The answers to one case. The clause call is not there yet: its letters, `c` and `C`, are answered by nothing.
+pub(crate) fn answer(
+    out: &mut [u8],
+    filled: usize,
+    call: u8,
+    text: &[u8],
+    cursor: Cursor,
+    room: usize,
+) -> usize
+    requires { ⌜ room ≤ largestRoom ⌝ }
+{
+    match call {
+        b't' => answer_line(out, filled, lexer::next_token(text, cursor)),
+        b'T' => token_lines(out, filled, text, cursor),
+        b'n' => answer_line(out, filled, lexer::next_number_token(text, cursor)),
+        b'x' => text_case(out, filled, text, cursor, room),
+        _ => filled,
+    }
+}
