@@ -12,6 +12,7 @@ pub mod Refusals
 pub mod Scans
 pub mod Spans
 pub mod Specimens
+pub mod Spellings
 pub mod Steps
 pub mod Table
 pub mod TextCalls

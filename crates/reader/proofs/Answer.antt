@@ -26,7 +26,7 @@ some-done (have fs out) ns e = absurd (let z : _≡_ {A = ℕ} 0 1 = cc in omega
 some-done dead ns e = absurd (let z : _≡_ {A = ℕ} 0 1 = cc in omega arith)
 some-done (done out) ns e = (out, refl, cc)
 
-laid-length : (out : Out) → length (laid out) ≡ 2 * length out
+pub laid-length : (out : Out) → length (laid out) ≡ 2 * length out
 unfolding laid
 laid-length [] = refl
 laid-length (nd i w ∷ out) = omega (arith, laid-length out, length-append (laid out) (i ∷ w ∷ []))

@@ -7,10 +7,11 @@ use mathlib.Core.List.{List, [], _∷_, _++_}
 use native.Mathlib.Omega.{arith}
 use native.Mathlib.Decide.{decLt}
 use borrow.Author.Tests.{lt-ltb, le-ltb, ltb-true}
-use Rattle.reader.specs.Token.{Stop, Terminal}
+use Rattle.reader.specs.Token.{Stop, Terminal, name, number, varOrString, round, square, brace, stop}
 use Rattle.reader.specs.Ops.{Pre, fx, fy, Inf, xfx, xfy, yfx, prePrio, preBound, prio, leftBound, rightBound, Table, prefixOf, infixOf, IsInfix}
 use Rattle.reader.specs.Tree.{NodeKind, Tree, node, Forest, nil, _◂_, arity, snoc}
-use Rattle.reader.specs.Machine.{nd, Out, Op, op, waiting, opened, Frames, Bracket, bound, lt?, red, emit, reduce, Act, endRound, endCall, endList, endTail, endCurly, nextPlace, toTail, endClause, actOf}
+use Rattle.reader.specs.Grammar.{blocks}
+use Rattle.reader.specs.Machine.{see, glues, nd, Out, Op, op, waiting, opened, Frames, Bracket, bound, lt?, red, emit, reduce, Act, endRound, endCall, endList, endTail, endCurly, nextPlace, toTail, endClause, actOf}
 
 -- Tests
 
@@ -25,6 +26,17 @@ lt?-no {a} {b} h = le-ltb a b h
 pub lt?-true : (a b : ℕ) → lt? a b ≡ true → a < b
 unfolding lt?
 lt?-true a b e = ltb-true a b e
+
+-- What the machine sees of a token blocks as the grammar says.
+pub glues-blocks : (T : Table) (m : Bool) (e : ℕ) (k : Terminal) → glues m e (see T k) ≡ blocks m e k
+unfolding glues see blocks
+glues-blocks T m e (name x f) = refl
+glues-blocks T m e (number s) = refl
+glues-blocks T m e varOrString = refl
+glues-blocks T m e (round ct) = refl
+glues-blocks T m e square = refl
+glues-blocks T m e brace = refl
+glues-blocks T m e (stop x) = refl
 
 -- Roles
 

@@ -10,8 +10,8 @@ use Rattle.reader.specs.Token.{Stop, closeList, closeCurly, comma, Termi
 use Rattle.reader.specs.Ops.{Pre, Inf, xfy, prePrio, preBound, prio, leftBound, rightBound, Table, prefixOf, infixOf, isMinus, roled, isOp, IsInfix, named, theComma}
 use Rattle.reader.specs.Tree.{NodeKind, plain, negative, call, prefix, infx, list, listTail, curly, emptyList, emptyCurly, Tree, node, leaf, Forest, nil, _◂_, arity, snoc}
 use Rattle.reader.specs.Grammar.{blocks, Term, aNumber, aVarOrString, aName, aNegative, aCall, aRound, aList, aListTail, aCurly, anEmptyList, anEmptyCurly, aPrefix, anInfix, Args, one, more, Place, alone, whole, Clause, clause}
-use Rattle.reader.specs.Machine.{nd, Out, Op, op, Seq, inCall, inList, Bracket, top, inRound, inCurly, inSeq, inTail, waiting, opened, Frames, Shape, squares, braces, State, want, pend, begun, have, done, placeOf, bound, Act, endRound, endCall, endList, endTail, endCurly, nextPlace, toTail, endClause, separates, inside, shuts, emptyKind, aboveAll, stopOf, red, pushAs, emit, act, actIf, closing, commaStep, stopStep, infixStep, gluedStep, wantStep, haveStep, prefixAs, prefixStep, opStep, pendStep, begunOn, begunStep, step, run, start}
-use Rattle.reader.proofs.Basics.{lt?-yes, preBound≤, leftBound≤, rightBound≤, Fair, Guard, guardBracket, guard-pre, guard-inf, over, Below, below-nil, below-mono, below-last, over-last, flush, flush-last, reduce-bracket, reduce-infix, push, pushes, pushes-snoc, arity-snoc, act-of}
+use Rattle.reader.specs.Machine.{nd, Out, Op, op, Seq, inCall, inList, Bracket, top, inRound, inCurly, inSeq, inTail, waiting, opened, Frames, Shape, squares, braces, State, want, pend, begun, have, done, placeOf, bound, Act, endRound, endCall, endList, endTail, endCurly, nextPlace, toTail, endClause, separates, inside, shuts, emptyKind, aboveAll, see, stopOf, glues, red, pushAs, emit, act, actIf, closing, commaStep, stopStep, infixStep, gluedStep, wantStep, haveStep, prefixAs, prefixStep, opStep, pendStep, begunOn, begunStep, step, run, start}
+use Rattle.reader.proofs.Basics.{lt?-yes, glues-blocks, preBound≤, leftBound≤, rightBound≤, Fair, Guard, guardBracket, guard-pre, guard-inf, over, Below, below-nil, below-mono, below-last, over-last, flush, flush-last, reduce-bracket, reduce-infix, push, pushes, pushes-snoc, arity-snoc, act-of}
 
 -- What follows a term: neither a bracket nor a number.
 pub data Follow : List Tok → Type 0 where
@@ -19,8 +19,8 @@ pub data Follow : List Tok → Type 0 where
   byStop : {i : ℕ} {x : Stop} {r : List Tok} → Follow (tok i (stop x) ∷ r)
 
 -- What starts a term: no stop.
-pub data Starts : List Tok → Type 0 where
-  starts : {i : ℕ} {k : Terminal} {r : List Tok} → stopOf k ≡ none → Starts (tok i k ∷ r)
+pub data Starts (T : Table) : List Tok → Type 0 where
+  starts : {i : ℕ} {k : Terminal} {r : List Tok} → stopOf (see T k) ≡ none → Starts T (tok i k ∷ r)
 
 -- What ends a place inside br.
 pub data Ends (br : Bracket) : List Tok → Type 0 where
@@ -49,8 +49,8 @@ module _ (word : NodeKind → ℕ → ℕ) (T : Table) where
   follow-ends : {br : Bracket} {rest : List Tok} → Ends br rest → Follow rest
   follow-ends (ends a) = byStop
 
-  term-starts : {p : ℕ} {ts rest : List Tok} {t : Tree} → Term T p ts rest t → Starts ts
-  unfolding stopOf
+  term-starts : {p : ℕ} {ts rest : List Tok} {t : Tree} → Term T p ts rest t → Starts T ts
+  unfolding stopOf see
   term-starts aNumber = starts refl
   term-starts aVarOrString = starts refl
   term-starts (aName f) = starts refl
@@ -65,12 +65,12 @@ module _ (word : NodeKind → ℕ → ℕ) (T : Table) where
   term-starts (aPrefix e p b d l) = starts refl
   term-starts (anInfix d l x p e q) = term-starts d
 
-  place-starts : {b : ℕ} {ts rest : List Tok} {t : Tree} → Place T b ts rest t → Starts ts
-  unfolding stopOf
+  place-starts : {b : ℕ} {ts rest : List Tok} {t : Tree} → Place T b ts rest t → Starts T ts
+  unfolding stopOf see
   place-starts (alone o) = starts refl
   place-starts (whole d l) = term-starts d
 
-  args-start : {ts rest : List Tok} {f : Forest} → Args T ts rest f → Starts ts
+  args-start : {ts rest : List Tok} {f : Forest} → Args T ts rest f → Starts T ts
   args-start (one d) = place-starts d
   args-start (more d e) = place-starts d
 
@@ -95,19 +95,19 @@ module _ (word : NodeKind → ℕ → ℕ) (T : Table) where
 
   have-ends : {br : Bracket} {rest : List Tok} (fs : Frames) (out : Out) {ops : List Op} → Below (placeOf br + 1) ops → (E : Ends br rest) →
       Run (have (over ops (opened br ∷ fs)) out) rest ≡ after E fs (flush word ops out)
-  unfolding run step haveStep after
+  unfolding run step haveStep see after
   have-ends fs out l (ends {i} {r} a) = ap (λ (z : State). Run z r) (stop-act a i fs out l)
 
   -- After a name
 
   alone-ends : {br : Bracket} {rest : List Tok} (i e : ℕ) (x : List ℕ) (fs : Frames) (out : Out) → isOp T x ≡ true → (E : Ends br rest) →
       Run (pend i e (isMinus x) (prefixOf T x) (infixOf T x) (opened br ∷ fs) out) rest ≡ after E fs (nd i (word plain 0) ∷ out)
-  unfolding run step pendStep blocks opStep stopOf after
+  unfolding run step pendStep glues see opStep stopOf after
   alone-ends i e x fs out o (ends {r} a) = rw o (ap (λ (z : State). Run z r) (closing-act a fs (nd i (word plain 0) ∷ out)))
 
   name-follow : {rest : List Tok} (i e : ℕ) (x : List ℕ) (fs : Frames) (out : Out) → isOp T x ≡ false → Follow rest →
       Run (pend i e (isMinus x) (prefixOf T x) (infixOf T x) fs out) rest ≡ Run (have fs (nd i (word plain 0) ∷ out)) rest
-  unfolding run step pendStep blocks
+  unfolding run step pendStep glues see
   name-follow i e x fs out o byName = rw o
   name-follow i e x fs out o byStop = rw o
 
@@ -116,11 +116,11 @@ module _ (word : NodeKind → ℕ → ℕ) (T : Table) where
   roled-pre x e = rw e
 
   name-prefix : {j : ℕ} {k : Terminal} (i e : ℕ) (x : List ℕ) (r : Pre) (fs : Frames) (out : Out) (us : List Tok) →
-      prefixOf T x ≡ some r → blocks (isMinus x) e k ≡ false → Starts (tok j k ∷ us) → prePrio r < bound fs →
+      prefixOf T x ≡ some r → blocks (isMinus x) e k ≡ false → Starts T (tok j k ∷ us) → prePrio r < bound fs →
       Run (pend i e (isMinus x) (prefixOf T x) (infixOf T x) fs out) (tok j k ∷ us)
       ≡ Run (want (waiting (op i false (prePrio r) (preBound r)) ∷ fs) out) (tok j k ∷ us)
   unfolding run step pendStep opStep prefixStep prefixAs
-  name-prefix i e x r fs out us p b (starts n) h = rw (b, roled-pre x p, n, p, lt?-yes h)
+  name-prefix {k} i e x r fs out us p b (starts n) h = rw (glues-blocks T (isMinus x) e k, b, roled-pre x p, n, p, lt?-yes h)
 
   -- After an operand
 
@@ -140,8 +140,8 @@ module _ (word : NodeKind → ℕ → ℕ) (T : Table) where
 
   have-infix : {k : Terminal} (r : Inf) → IsInfix T k r → (i : ℕ) (fs : Frames) (out : Out) {ops : List Op} →
       Below (leftBound r) ops → Guard T fs → prio r < bound fs →
-      haveStep word T (over ops fs) out (tok i k) ≡ want (waiting (op i true (prio r) (rightBound r)) ∷ fs) (flush word ops out)
-  unfolding haveStep infixStep stopStep commaStep prio leftBound rightBound
+      haveStep word (over ops fs) out i (see T k) ≡ want (waiting (op i true (prio r) (rightBound r)) ∷ fs) (flush word ops out)
+  unfolding haveStep see infixStep stopStep commaStep prio leftBound rightBound
   have-infix r (named {x} {e} q) i fs out b g h =
       rw (q, reduce-infix word T (name x e) r (named q) fs out b g h) (push-yes i (prio r) (rightBound r) fs (flush word _ out) h)
   have-infix r theComma i fs out b g h =
@@ -154,93 +154,93 @@ module _ (word : NodeKind → ℕ → ℕ) (T : Table) where
   unfolding flush over
   reach0 output e q = record { above = []; output = output; runs = e; owed = q; below = below-nil }
 
-  case-plain : {i : ℕ} {k : Terminal} {rest : List Tok} {fs : Frames} {out : Out} → wantStep word T fs out (tok i k) ≡ have fs (nd i (word plain 0) ∷ out) →
+  case-plain : {i : ℕ} {k : Terminal} {rest : List Tok} {fs : Frames} {out : Out} → wantStep word fs out i (see T k) ≡ have fs (nd i (word plain 0) ∷ out) →
       Reach 0 (tok i k ∷ rest) rest (leaf i) fs out
   unfolding run step push arity
   case-plain {i} {rest} {out} e = reach0 (nd i (word plain 0) ∷ out) (ap (λ (z : State). Run z rest) e) refl
 
-  want-number : (i s : ℕ) (fs : Frames) (out : Out) → wantStep word T fs out (tok i (number s)) ≡ have fs (nd i (word plain 0) ∷ out)
-  unfolding wantStep
+  want-number : (i s : ℕ) (fs : Frames) (out : Out) → wantStep word fs out i (see T (number s)) ≡ have fs (nd i (word plain 0) ∷ out)
+  unfolding wantStep see
   want-number i s fs out = refl
 
-  want-varOrString : (i : ℕ) (fs : Frames) (out : Out) → wantStep word T fs out (tok i varOrString) ≡ have fs (nd i (word plain 0) ∷ out)
-  unfolding wantStep
+  want-varOrString : (i : ℕ) (fs : Frames) (out : Out) → wantStep word fs out i (see T varOrString) ≡ have fs (nd i (word plain 0) ∷ out)
+  unfolding wantStep see
   want-varOrString i fs out = refl
 
   case-name : {i e : ℕ} {x : List ℕ} {rest : List Tok} {fs : Frames} {out : Out} → isOp T x ≡ false → Follow rest →
       Reach 0 (tok i (name x e) ∷ rest) rest (leaf i) fs out
-  unfolding run step wantStep push arity
+  unfolding run step wantStep see push arity
   case-name {i} {e} {x} {fs} {out} f w = reach0 (nd i (word plain 0) ∷ out) (name-follow i e x fs out f w) refl
 
-  blocks-glued : (m : Bool) (e : ℕ) → m ≡ true → blocks m e (number e) ≡ true
-  unfolding blocks
+  blocks-glued : (m : Bool) (e : ℕ) → m ≡ true → glues m e (see T (number e)) ≡ true
+  unfolding glues see
   blocks-glued m e h = rw h (eq-eqb e e refl)
 
   pend-glued : (i e j : ℕ) (x : List ℕ) (fs : Frames) (out : Out) → isMinus x ≡ true →
-      pendStep word T i e (isMinus x) (prefixOf T x) (infixOf T x) fs out (tok j (number e)) ≡ have fs (nd i (word negative 0) ∷ out)
-  unfolding pendStep gluedStep
+      pendStep word i e (isMinus x) (prefixOf T x) (infixOf T x) fs out j (see T (number e)) ≡ have fs (nd i (word negative 0) ∷ out)
+  unfolding pendStep gluedStep see
   pend-glued i e j x fs out m = rw (blocks-glued (isMinus x) e m)
 
   case-negative : {i e j : ℕ} {x : List ℕ} {rest : List Tok} {fs : Frames} {out : Out} → isMinus x ≡ true →
       Reach 0 (tok i (name x e) ∷ tok j (number e) ∷ rest) rest (node i negative nil) fs out
-  unfolding run step wantStep push arity
+  unfolding run step wantStep see push arity
   case-negative {i} {e} {j} {x} {rest} {fs} {out} m =
       reach0 (nd i (word negative 0) ∷ out) (ap (λ (z : State). Run z rest) (pend-glued i e j x fs out m)) refl
 
   case-call : {i e j : ℕ} {x : List ℕ} {us rest : List Tok} {f : Forest} {fs : Frames} {out : Out} (d : ℕ) → arity f ≡ d + 1 →
       Run (want (opened (inSeq inCall i 0) ∷ fs) out) us ≡ Run (have fs (nd i (word call (d + 1)) ∷ pushes word f out)) rest →
       Reach 0 (tok i (name x e) ∷ tok j (round true) ∷ us) rest (node i call f) fs out
-  unfolding run step wantStep pendStep blocks gluedStep push
+  unfolding run step wantStep see pendStep glues gluedStep push
   case-call {i} {f} {out} d q h = reach0 (nd i (word call (d + 1)) ∷ pushes word f out) h (rw q)
 
   case-round : {i : ℕ} {ct : Bool} {us rest : List Tok} {t : Tree} {fs : Frames} {out : Out} →
       Run (want (opened inRound ∷ fs) out) us ≡ Run (have fs (push word t out)) rest → Reach 0 (tok i (round ct) ∷ us) rest t fs out
-  unfolding run step wantStep
+  unfolding run step wantStep see
   case-round {t} {out} h = reach0 (push word t out) h refl
 
   -- after `[` and `{`, the next token starts the first place
-  begun-starts : {us : List Tok} (h : Shape) (i : ℕ) (fs : Frames) (out : Out) → Starts us →
+  begun-starts : {us : List Tok} (h : Shape) (i : ℕ) (fs : Frames) (out : Out) → Starts T us →
       Run (begun h i fs out) us ≡ Run (want (opened (inside h i) ∷ fs) out) us
   unfolding run step begunStep begunOn
   begun-starts h i fs out (starts n) = rw n
 
-  case-list : {i : ℕ} {us rest : List Tok} {f : Forest} {fs : Frames} {out : Out} (d : ℕ) → Starts us → arity f ≡ d + 1 →
+  case-list : {i : ℕ} {us rest : List Tok} {f : Forest} {fs : Frames} {out : Out} (d : ℕ) → Starts T us → arity f ≡ d + 1 →
       Run (want (opened (inSeq inList i 0) ∷ fs) out) us ≡ Run (have fs (nd i (word list (d + 1)) ∷ pushes word f out)) rest →
       Reach 0 (tok i square ∷ us) rest (node i list f) fs out
-  unfolding run step wantStep inside push
+  unfolding run step wantStep see inside push
   case-list {i} {f} {fs} {out} d w q h = reach0 (nd i (word list (d + 1)) ∷ pushes word f out) (begun-starts squares i fs out w ∙ h) (rw q)
 
   case-tail : {i : ℕ} {us rest : List Tok} {g : Forest} {fs : Frames} {out : Out} (d : ℕ) (vs : List Tok) (f : Forest) (t : Tree) →
-      Starts us → arity f ≡ d + 1 → snoc f t ≡ g →
+      Starts T us → arity f ≡ d + 1 → snoc f t ≡ g →
       Run (want (opened (inSeq inList i 0) ∷ fs) out) us ≡ Run (want (opened (inTail i (d + 1)) ∷ fs) (pushes word f out)) vs →
       Run (want (opened (inTail i (d + 1)) ∷ fs) (pushes word f out)) vs ≡ Run (have fs (nd i (word listTail (d + 1 + 1)) ∷ push word t (pushes word f out))) rest →
       Reach 0 (tok i square ∷ us) rest (node i listTail g) fs out
-  unfolding run step wantStep inside push
+  unfolding run step wantStep see inside push
   case-tail {i} {fs} {out} d vs f t w q g h l =
       reach0 (nd i (word listTail (d + 1 + 1)) ∷ push word t (pushes word f out)) (begun-starts squares i fs out w ∙ h ∙ l)
       (rw (← g, arity-snoc f t, pushes-snoc word f t out, q))
 
-  case-curly : {i : ℕ} {us rest : List Tok} {t : Tree} {fs : Frames} {out : Out} → Starts us →
+  case-curly : {i : ℕ} {us rest : List Tok} {t : Tree} {fs : Frames} {out : Out} → Starts T us →
       Run (want (opened (inCurly i) ∷ fs) out) us ≡ Run (have fs (nd i (word curly 1) ∷ push word t out)) rest →
       Reach 0 (tok i brace ∷ us) rest (node i curly (t ◂ nil)) fs out
-  unfolding run step wantStep inside push arity
+  unfolding run step wantStep see inside push arity
   case-curly {i} {t} {fs} {out} w h = reach0 (nd i (word curly 1) ∷ push word t out) (begun-starts braces i fs out w ∙ h) refl
 
   case-empty-list : {i k : ℕ} {rest : List Tok} {fs : Frames} {out : Out} →
       Reach 0 (tok i square ∷ tok k (stop closeList) ∷ rest) rest (node i emptyList nil) fs out
-  unfolding run step wantStep begunStep begunOn stopOf shuts emptyKind push arity
+  unfolding run step wantStep see begunStep begunOn stopOf shuts emptyKind push arity
   case-empty-list {i} {out} = reach0 (nd i (word emptyList 0) ∷ out) refl refl
 
   case-empty-curly : {i k : ℕ} {rest : List Tok} {fs : Frames} {out : Out} →
       Reach 0 (tok i brace ∷ tok k (stop closeCurly) ∷ rest) rest (node i emptyCurly nil) fs out
-  unfolding run step wantStep begunStep begunOn stopOf shuts emptyKind push arity
+  unfolding run step wantStep see begunStep begunOn stopOf shuts emptyKind push arity
   case-empty-curly {i} {out} = reach0 (nd i (word emptyCurly 0) ∷ out) refl refl
 
   case-prefix : {i e j p q : ℕ} {x : List ℕ} {r : Pre} {k : Terminal} {us rest : List Tok} {t : Tree} {fs : Frames} {out : Out} →
-      prefixOf T x ≡ some r → prePrio r ≡ p → blocks (isMinus x) e k ≡ false → Starts (tok j k ∷ us) → q < preBound r → p < bound fs →
+      prefixOf T x ≡ some r → prePrio r ≡ p → blocks (isMinus x) e k ≡ false → Starts T (tok j k ∷ us) → q < preBound r → p < bound fs →
       Reach q (tok j k ∷ us) rest t (waiting (op i false (prePrio r) (preBound r)) ∷ fs) out →
       Reach p (tok i (name x e) ∷ tok j k ∷ us) rest (node i prefix (t ◂ nil)) fs out
-  unfolding run step wantStep push arity emit
+  unfolding run step wantStep see push arity emit
   case-prefix {i} {e} {j} {p} {q} {x} {r} {k} {us} {fs} {out} a y b w l h R =
       let high : prePrio r < bound fs = omega arith in
       let last : prePrio r < p + 1 = omega arith in
@@ -278,7 +278,7 @@ module _ (word : NodeKind → ℕ → ℕ) (T : Table) where
 
   place-alone : {rest : List Tok} (i e : ℕ) (x : List ℕ) (br : Bracket) (fs : Frames) (out : Out) → isOp T x ≡ true → (E : Ends br rest) →
       Run (want (opened br ∷ fs) out) (tok i (name x e) ∷ rest) ≡ after E fs (push word (leaf i) out)
-  unfolding run step wantStep push arity
+  unfolding run step wantStep see push arity
   place-alone i e x br fs out o E = alone-ends i e x fs out o E
 
   place-whole : {b p : ℕ} {ts rest : List Tok} {t : Tree} (br : Bracket) (fs : Frames) (out : Out) → b ≡ placeOf br → p ≤ b → (E : Ends br rest) →

@@ -5,6 +5,15 @@ pub mod Unique
 pub mod Table
 pub mod Size
 pub mod Answer
+pub mod Outcomes
 pub mod Theorems
 pub mod Needed
 pub mod Specimens
+pub mod Finding
+pub mod Stacks
+pub mod Tags
+pub mod Rooms
+pub mod Views
+pub mod Sights
+pub mod Turns
+pub mod Runs

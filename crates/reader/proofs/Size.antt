@@ -7,32 +7,11 @@ use mathlib.Core.Option.{Option, none, some}
 use mathlib.Core.List.{List, [], _∷_}
 use native.Mathlib.Omega.{arith}
 use lib.ListN.{length}
-use Rattle.reader.specs.Token.{Stop, close, closeList, closeCurly, bar, doubleBar, comma, endMark, Terminal, name, number, varOrString, round, square, brace, stop, Tok, tok}
-use Rattle.reader.specs.Ops.{Pre, Inf, prePrio, preBound, prio, leftBound, rightBound, Table, infixOf, roled}
+use Rattle.reader.specs.Token.{Stop, close, closeList, closeCurly, bar, doubleBar, comma, endMark, Tok, tok}
+use Rattle.reader.specs.Ops.{Pre, Inf, prePrio, preBound, prio, leftBound, rightBound, Table, roled}
 use Rattle.reader.specs.Tree.{NodeKind, plain}
-use Rattle.reader.specs.Grammar.{blocks}
-use Rattle.reader.specs.Machine.{nd, Out, op, Bracket, top, inRound, inCurly, inSeq, inTail, Frame, waiting, opened, Frames, Shape, squares, braces, State, want, pend, begun, have, dead, done, bound, Act, endRound, endCall, endList, endTail, endCurly, nextPlace, toTail, endClause, actOf, separates, inside, shuts, aboveAll, stopOf, lt?, Red, red, pushAs, emit, reduce, act, actIf, closing, commaStep, stopStep, infixStep, gluedStep, wantStep, haveStep, prefixAs, prefixStep, opStep, pendStep, begunOn, begunStep, step, run, start}
-
--- a frame counts for one, and for the places before the one that is being read
-unfoldable pub size : Frame → ℕ
-size (waiting o) = 1
-size (opened top) = 1
-size (opened inRound) = 1
-size (opened (inCurly i)) = 1
-size (opened (inSeq k i c)) = c + 1
-size (opened (inTail i c)) = c + 1
-
-unfoldable pub sizes : Frames → ℕ
-sizes [] = 0
-sizes (f ∷ fs) = size f + sizes fs
-
-unfoldable pub weight : State → ℕ
-weight (want fs out) = sizes fs + length out
-weight (pend i e m r s fs out) = sizes fs + length out + 1
-weight (begun h i fs out) = sizes fs + length out + 1
-weight (have fs out) = sizes fs + length out
-weight dead = 0
-weight (done out) = length out + 2
+use Rattle.reader.specs.Machine.{nd, Out, op, Bracket, top, inRound, inCurly, inSeq, inTail, Frame, waiting, opened, Frames, Shape, squares, braces, State, want, pend, begun, have, dead, done, bound, Act, endRound, endCall, endList, endTail, endCurly, nextPlace, toTail, endClause, actOf, separates, inside, shuts, aboveAll, Sight, seenName, seenNumber, seenVarOrString, seenRound, seenSquare, seenBrace, seenStop, see, stopOf, glues, lt?, Red, red, pushAs, emit, reduce, act, actIf, closing, commaStep, stopStep, infixStep, gluedStep, wantStep, haveStep, prefixAs, prefixStep, opStep, pendStep, begunOn, begunStep, step, run, start, size, Numbered, none-left, one-more}
+use Rattle.reader.specs.Weight.{sizes, weight}
 
 redSize : Red → ℕ
 redSize (red fs out) = sizes fs + length out
@@ -111,73 +90,73 @@ module _ (word : NodeKind → ℕ → ℕ) where
   infix-size i (some r) fs out =
       omega (arith, push-size i (prio r) (rightBound r) (reduce word (leftBound r) fs out), reduce-size (leftBound r) fs out)
 
-  glued-size : (i : ℕ) (fs : Frames) (out : Out) (k : Terminal) → weight (gluedStep word i fs out k) ≤ sizes fs + length out + 1
+  glued-size : (i : ℕ) (fs : Frames) (out : Out) (k : Sight) → weight (gluedStep word i fs out k) ≤ sizes fs + length out + 1
   unfolding gluedStep weight sizes size
-  glued-size i fs out (name x e) = omega arith
-  glued-size i fs out (number s) = omega arith
-  glued-size i fs out varOrString = omega arith
-  glued-size i fs out (round ct) = omega arith
-  glued-size i fs out square = omega arith
-  glued-size i fs out brace = omega arith
-  glued-size i fs out (stop x) = omega arith
+  glued-size i fs out (seenName e m r s) = omega arith
+  glued-size i fs out (seenNumber s) = omega arith
+  glued-size i fs out seenVarOrString = omega arith
+  glued-size i fs out (seenRound ct) = omega arith
+  glued-size i fs out seenSquare = omega arith
+  glued-size i fs out seenBrace = omega arith
+  glued-size i fs out (seenStop x) = omega arith
+
+  want-size : (fs : Frames) (out : Out) (i : ℕ) (k : Sight) → weight (wantStep word fs out i k) ≤ sizes fs + length out + 1
+  unfolding wantStep weight sizes size
+  want-size fs out i (seenName e m r s) = omega arith
+  want-size fs out i (seenNumber s) = omega arith
+  want-size fs out i seenVarOrString = omega arith
+  want-size fs out i (seenRound ct) = omega arith
+  want-size fs out i seenSquare = omega arith
+  want-size fs out i seenBrace = omega arith
+  want-size fs out i (seenStop x) = omega arith
+
+  have-size : (fs : Frames) (out : Out) (i : ℕ) (k : Sight) → weight (haveStep word fs out i k) ≤ sizes fs + length out + 1
+  unfolding haveStep
+  have-size fs out i (seenName e m r s) = infix-size i s fs out
+  have-size fs out i (seenNumber s) = dead-le _
+  have-size fs out i seenVarOrString = dead-le _
+  have-size fs out i (seenRound ct) = dead-le _
+  have-size fs out i seenSquare = dead-le _
+  have-size fs out i seenBrace = dead-le _
+  have-size fs out i (seenStop x) = stop-size x i fs out
+
+  prefix-size : (i : ℕ) (r : Option Pre) (fs : Frames) (out : Out) (j : ℕ) (k : Sight) → weight (prefixStep word i r fs out j k) ≤ sizes fs + length out + 2
+  unfolding prefixStep prefixAs sizes size
+  prefix-size i none fs out j k = dead-le _
+  prefix-size i (some r) fs out j k =
+      cond-le (lt? (prePrio r) (bound fs)) _ _ _ (omega (arith, want-size (waiting (op i false (prePrio r) (preBound r)) ∷ fs) out j k)) (dead-le _)
+
+  op-size : (z : Option Stop) (i : ℕ) (r : Option Pre) (fs : Frames) (out : Out) (j : ℕ) (k : Sight) → weight (opStep word z i r fs out j k) ≤ sizes fs + length out + 2
+  unfolding opStep redSize
+  op-size none i r fs out j k = prefix-size i r fs out j k
+  op-size (some x) i r fs out j k = omega (arith, closing-size x (red fs (nd i (word plain 0) ∷ out)))
+
+  pend-size : (i e : ℕ) (m : Bool) (r : Option Pre) (s : Option Inf) (fs : Frames) (out : Out) (j : ℕ) (k : Sight) →
+      weight (pendStep word i e m r s fs out j k) ≤ sizes fs + length out + 2
+  unfolding pendStep
+  pend-size i e m r s fs out j k =
+      cond-le (glues m e k) _ _ _ (omega (arith, glued-size i fs out k))
+      (cond-le (roled r s) _ _ _ (op-size (stopOf k) i r fs out j k) (omega (arith, have-size fs (nd i (word plain 0) ∷ out) j k)))
+
+  begun-on-size : (z : Option Stop) (h : Shape) (i : ℕ) (fs : Frames) (out : Out) (j : ℕ) (k : Sight) → weight (begunOn word z h i fs out j k) ≤ sizes fs + length out + 2
+  unfolding begunOn weight sizes
+  begun-on-size none h i fs out j k = omega (arith, want-size (opened (inside h i) ∷ fs) out j k, inside-size h i)
+  begun-on-size (some x) h i fs out j k = cond-le (shuts h x) _ _ _ (omega arith) (dead-le _)
+
+  pub step-size : (s : State) (j : ℕ) (k : Sight) → weight (step word s j k) ≤ weight s + 1
+  unfolding step weight begunStep
+  step-size (want fs out) j k = want-size fs out j k
+  step-size (pend i e m r s fs out) j k = omega (arith, pend-size i e m r s fs out j k)
+  step-size (begun h i fs out) j k = omega (arith, begun-on-size (stopOf k) h i fs out j k)
+  step-size (have fs out) j k = have-size fs out j k
+  step-size dead j k = omega arith
+  step-size (done out) j k = omega arith
 
   module _ (T : Table) where
-    want-size : (fs : Frames) (out : Out) (t : Tok) → weight (wantStep word T fs out t) ≤ sizes fs + length out + 1
-    unfolding wantStep weight sizes size
-    want-size fs out (tok i (name x e)) = omega arith
-    want-size fs out (tok i (number s)) = omega arith
-    want-size fs out (tok i varOrString) = omega arith
-    want-size fs out (tok i (round ct)) = omega arith
-    want-size fs out (tok i square) = omega arith
-    want-size fs out (tok i brace) = omega arith
-    want-size fs out (tok i (stop x)) = omega arith
-
-    have-size : (fs : Frames) (out : Out) (t : Tok) → weight (haveStep word T fs out t) ≤ sizes fs + length out + 1
-    unfolding haveStep
-    have-size fs out (tok i (name x e)) = infix-size i (infixOf T x) fs out
-    have-size fs out (tok i (number s)) = dead-le _
-    have-size fs out (tok i varOrString) = dead-le _
-    have-size fs out (tok i (round ct)) = dead-le _
-    have-size fs out (tok i square) = dead-le _
-    have-size fs out (tok i brace) = dead-le _
-    have-size fs out (tok i (stop x)) = stop-size x i fs out
-
-    prefix-size : (i : ℕ) (r : Option Pre) (fs : Frames) (out : Out) (t : Tok) → weight (prefixStep word T i r fs out t) ≤ sizes fs + length out + 2
-    unfolding prefixStep prefixAs sizes size
-    prefix-size i none fs out t = dead-le _
-    prefix-size i (some r) fs out t =
-        cond-le (lt? (prePrio r) (bound fs)) _ _ _ (omega (arith, want-size (waiting (op i false (prePrio r) (preBound r)) ∷ fs) out t)) (dead-le _)
-
-    op-size : (z : Option Stop) (i : ℕ) (r : Option Pre) (fs : Frames) (out : Out) (t : Tok) → weight (opStep word T z i r fs out t) ≤ sizes fs + length out + 2
-    unfolding opStep redSize
-    op-size none i r fs out t = prefix-size i r fs out t
-    op-size (some x) i r fs out t = omega (arith, closing-size x (red fs (nd i (word plain 0) ∷ out)))
-
-    pend-size : (i e : ℕ) (m : Bool) (r : Option Pre) (s : Option Inf) (fs : Frames) (out : Out) (t : Tok) →
-        weight (pendStep word T i e m r s fs out t) ≤ sizes fs + length out + 2
-    unfolding pendStep
-    pend-size i e m r s fs out (tok j k) =
-        cond-le (blocks m e k) _ _ _ (omega (arith, glued-size i fs out k))
-        (cond-le (roled r s) _ _ _ (op-size (stopOf k) i r fs out (tok j k)) (omega (arith, have-size fs (nd i (word plain 0) ∷ out) (tok j k))))
-
-    begun-on-size : (z : Option Stop) (h : Shape) (i : ℕ) (fs : Frames) (out : Out) (t : Tok) → weight (begunOn word T z h i fs out t) ≤ sizes fs + length out + 2
-    unfolding begunOn weight sizes
-    begun-on-size none h i fs out t = omega (arith, want-size (opened (inside h i) ∷ fs) out t, inside-size h i)
-    begun-on-size (some x) h i fs out t = cond-le (shuts h x) _ _ _ (omega arith) (dead-le _)
-
-    step-size : (s : State) (t : Tok) → weight (step word T s t) ≤ weight s + 1
-    unfolding step weight begunStep
-    step-size (want fs out) t = want-size fs out t
-    step-size (pend i e m r s fs out) t = omega (arith, pend-size i e m r s fs out t)
-    step-size (begun h i fs out) (tok j k) = omega (arith, begun-on-size (stopOf k) h i fs out (tok j k))
-    step-size (have fs out) t = have-size fs out t
-    step-size dead t = omega arith
-    step-size (done out) t = omega arith
-
     run-size : (s : State) (ts : List Tok) → weight (run word T s ts) ≤ weight s + length ts
     unfolding run
     run-size s [] = omega arith
-    run-size s (t ∷ ts) = omega (arith, run-size (step word T s t) ts, step-size s t)
+    run-size s (tok i k ∷ ts) = omega (arith, run-size (step word s i (see T k)) ts, step-size s i (see T k))
 
     -- what is held after the tokens ts
     pub run-weight : (ts : List Tok) → weight (run word T start ts) ≤ length ts + 1
@@ -207,11 +186,6 @@ nodesIn (have fs out) = out
 nodesIn dead = []
 nodesIn (done out) = out
 
--- every frame's place number is below n
-pub data Numbered (n : ℕ) : Frames → Type 0 where
-  none-left : Numbered n []
-  one-more : {f : Frame} {fs : Frames} → size f ≤ n → Numbered n fs → Numbered n (f ∷ fs)
-
 size-low : (f : Frame) → 1 ≤ size f
 unfolding size
 size-low (waiting o) = omega arith
@@ -221,12 +195,12 @@ size-low (opened (inCurly i)) = omega arith
 size-low (opened (inSeq k i c)) = omega arith
 size-low (opened (inTail i c)) = omega arith
 
-count-low : (fs : Frames) → length fs ≤ sizes fs
+pub count-low : (fs : Frames) → length fs ≤ sizes fs
 unfolding sizes
 count-low [] = omega arith
 count-low (f ∷ fs) = omega (arith, size-low f, count-low fs)
 
-numbered : (n : ℕ) (fs : Frames) → sizes fs ≤ n → Numbered n fs
+pub numbered : (n : ℕ) (fs : Frames) → sizes fs ≤ n → Numbered n fs
 unfolding sizes
 numbered n [] h = none-left
 numbered n (f ∷ fs) h = one-more {f = f} (omega arith) (numbered n fs (omega arith))

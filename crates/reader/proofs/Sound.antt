@@ -12,8 +12,8 @@ use Rattle.reader.specs.Token.{Stop, close, closeList, closeCurly, bar, 
 use Rattle.reader.specs.Ops.{Pre, fx, fy, Inf, xfx, xfy, yfx, prePrio, preBound, prio, leftBound, rightBound, Table, prefixOf, infixOf, isMinus, isOp, IsInfix, named, theComma}
 use Rattle.reader.specs.Tree.{NodeKind, plain, negative, call, prefix, infx, list, listTail, curly, Tree, node, Forest, nil, _◂_, arity, snoc}
 use Rattle.reader.specs.Grammar.{blocks, Term, aNumber, aVarOrString, aName, aNegative, aCall, aRound, aList, aListTail, aCurly, anEmptyList, anEmptyCurly, aPrefix, anInfix, Args, one, more, Place, alone, whole, Clause, clause}
-use Rattle.reader.specs.Machine.{nd, Out, op, Seq, inCall, inList, Bracket, top, inRound, inCurly, inSeq, inTail, waiting, opened, Frames, Shape, squares, braces, State, want, pend, begun, have, dead, done, placeOf, bound, Act, endRound, endCall, endList, endTail, endCurly, nextPlace, toTail, endClause, actOf, separates, inside, shuts, emptyKind, stopOf, lt?, Red, red, pushAs, emit, reduce, act, actIf, closing, commaStep, stopStep, infixStep, gluedStep, wantStep, haveStep, prefixAs, prefixStep, opStep, pendStep, begunOn, begunStep, step, run, start}
-use Rattle.reader.proofs.Basics.{lt?-true, Fair, push, pushes, pushes-snoc, arity-snoc}
+use Rattle.reader.specs.Machine.{nd, Out, op, Seq, inCall, inList, Bracket, top, inRound, inCurly, inSeq, inTail, waiting, opened, Frames, Shape, squares, braces, State, want, pend, begun, have, dead, done, placeOf, bound, Act, endRound, endCall, endList, endTail, endCurly, nextPlace, toTail, endClause, actOf, separates, inside, shuts, emptyKind, see, stopOf, lt?, Red, red, pushAs, emit, reduce, act, actIf, closing, commaStep, stopStep, infixStep, gluedStep, wantStep, haveStep, prefixAs, prefixStep, opStep, pendStep, begunOn, begunStep, step, run, start}
+use Rattle.reader.proofs.Basics.{lt?-true, glues-blocks, Fair, push, pushes, pushes-snoc, arity-snoc}
 
 -- the tokens that open a sequence of places, at ts, and where its first place begins
 data Opens : Seq → ℕ → List Tok → List Tok → Type 0 where
@@ -269,31 +269,31 @@ module _ (word : NodeKind → ℕ → ℕ) (T : Table) (source : List Tok) where
   infixed none fair q s d e = iDead
   infixed {e = f} (some r) fair q s d e = pushed r (named q) (reduced s d (held-low fair s) (left-low r fair (named {e = f} q)) e)
 
-  haved : {fs : Frames} {ts rest : List Tok} {before out : Out} {t : Tree} → Fair T → (o : Tok) →
-      Held fs ts before → Term T 0 ts (o ∷ rest) t → push word t before ≡ out → Inv (haveStep word T fs out o) rest
-  unfolding haveStep
-  haved fair (tok i (name x e)) s d q = infixed (infixOf T x) fair refl s d q
-  haved fair (tok i (number n)) s d q = iDead
-  haved fair (tok i varOrString) s d q = iDead
-  haved fair (tok i (round ct)) s d q = iDead
-  haved fair (tok i square) s d q = iDead
-  haved fair (tok i brace) s d q = iDead
-  haved fair (tok i (stop x)) s d q = stopped x fair s d q
+  haved : {fs : Frames} {ts rest : List Tok} {before out : Out} {t : Tree} → Fair T → (i : ℕ) (k : Terminal) →
+      Held fs ts before → Term T 0 ts (tok i k ∷ rest) t → push word t before ≡ out → Inv (haveStep word fs out i (see T k)) rest
+  unfolding haveStep see
+  haved fair i (name x e) s d q = infixed (infixOf T x) fair refl s d q
+  haved fair i (number n) s d q = iDead
+  haved fair i varOrString s d q = iDead
+  haved fair i (round ct) s d q = iDead
+  haved fair i square s d q = iDead
+  haved fair i brace s d q = iDead
+  haved fair i (stop x) s d q = stopped x fair s d q
 
   -- An operand is expected.
 
-  wanted : {fs : Frames} {rest : List Tok} {out : Out} (o : Tok) → Held fs (o ∷ rest) out → Inv (wantStep word T fs out o) rest
-  unfolding wantStep push arity
-  wanted (tok i (name x e)) s = iPend s refl refl refl
-  wanted (tok i (number n)) s = iHave s aNumber refl
-  wanted (tok i varOrString) s = iHave s aVarOrString refl
-  wanted (tok i (round ct)) s = iWant (base (ofRound s))
-  wanted (tok i square) s = iBegun isSquare s
-  wanted (tok i brace) s = iBegun isBrace s
-  wanted (tok i (stop x)) s = iDead
+  wanted : {fs : Frames} {rest : List Tok} {out : Out} (i : ℕ) (k : Terminal) → Held fs (tok i k ∷ rest) out → Inv (wantStep word fs out i (see T k)) rest
+  unfolding wantStep see push arity
+  wanted i (name x e) s = iPend s refl refl refl
+  wanted i (number n) s = iHave s aNumber refl
+  wanted i varOrString s = iHave s aVarOrString refl
+  wanted i (round ct) s = iWant (base (ofRound s))
+  wanted i square s = iBegun isSquare s
+  wanted i brace s = iBegun isBrace s
+  wanted i (stop x) s = iDead
 
-  stop-of : (k : Terminal) (x : Stop) → stopOf k ≡ some x → k ≡ stop x
-  unfolding stopOf
+  stop-of : (k : Terminal) (x : Stop) → stopOf (see T k) ≡ some x → k ≡ stop x
+  unfolding stopOf see
   stop-of (name y e) x q = absurd (let z : _≡_ {A = ℕ} 0 1 = cc in omega arith)
   stop-of (number n) x q = absurd (let z : _≡_ {A = ℕ} 0 1 = cc in omega arith)
   stop-of varOrString x q = absurd (let z : _≡_ {A = ℕ} 0 1 = cc in omega arith)
@@ -327,10 +327,10 @@ module _ (word : NodeKind → ℕ → ℕ) (T : Table) (source : List Tok) where
   shut comma isBrace s = iDead
   shut endMark isBrace s = iDead
 
-  begun-on : {h : Shape} {i j : ℕ} {k l : Terminal} {fs : Frames} {rest : List Tok} {out : Out} (z : Option Stop) → stopOf l ≡ z → Opener h k →
-      Held fs (tok i k ∷ tok j l ∷ rest) out → Inv (begunOn word T z h i fs out (tok j l)) rest
+  begun-on : {h : Shape} {i j : ℕ} {k l : Terminal} {fs : Frames} {rest : List Tok} {out : Out} (z : Option Stop) → stopOf (see T l) ≡ z → Opener h k →
+      Held fs (tok i k ∷ tok j l ∷ rest) out → Inv (begunOn word z h i fs out j (see T l)) rest
   unfolding begunOn
-  begun-on {j} {l} none q o s = wanted (tok j l) (base (placed o s))
+  begun-on {j} {l} none q o s = wanted j l (base (placed o s))
   begun-on {i} {j} {k} {l} {fs} {rest} {out} (some x) q o s =
       shut x o (subst (λ (z : Terminal). Held fs (tok i k ∷ tok j z ∷ rest) out) (stop-of l x q) s)
 
@@ -343,8 +343,8 @@ module _ (word : NodeKind → ℕ → ℕ) (T : Table) (source : List Tok) where
   negative-term false q h = absurd (false≢true h)
 
   glued : {i e j : ℕ} {x : List ℕ} {m : Bool} {fs : Frames} {rest : List Tok} {out : Out} (k : Terminal) → isMinus x ≡ m → blocks m e k ≡ true →
-      Held fs (tok i (name x e) ∷ tok j k ∷ rest) out → Inv (gluedStep word i fs out k) rest
-  unfolding gluedStep blocks push arity
+      Held fs (tok i (name x e) ∷ tok j k ∷ rest) out → Inv (gluedStep word i fs out (see T k)) rest
+  unfolding gluedStep see blocks push arity
   glued (name y f) q h s = iDead
   glued {m} (number n) q h s = iHave s (negative-term m q h) refl
   glued varOrString q h s = iDead
@@ -355,13 +355,13 @@ module _ (word : NodeKind → ℕ → ℕ) (T : Table) (source : List Tok) where
   glued (stop y) q h s = iDead
 
   prefixed : {i e j : ℕ} {x : List ℕ} {k : Terminal} {fs : Frames} {rest : List Tok} {out : Out} (r : Option Pre) → prefixOf T x ≡ r →
-      blocks (isMinus x) e k ≡ false → Held fs (tok i (name x e) ∷ tok j k ∷ rest) out → Inv (prefixStep word T i r fs out (tok j k)) rest
+      blocks (isMinus x) e k ≡ false → Held fs (tok i (name x e) ∷ tok j k ∷ rest) out → Inv (prefixStep word i r fs out j (see T k)) rest
   unfolding prefixStep prefixAs
   prefixed none q b s = iDead
   prefixed {i} {j} {k} {fs} {rest} {out} (some r) q b s = go (lt? (prePrio r) (bound fs)) refl
     where
-      go : (v : Bool) → lt? (prePrio r) (bound fs) ≡ v → Inv (cond v (wantStep word T (waiting (op i false (prePrio r) (preBound r)) ∷ fs) out (tok j k)) dead) rest
-      go true w = wanted (tok j k) (afterPrefix s q refl refl (lt?-true (prePrio r) (bound fs) w) b)
+      go : (v : Bool) → lt? (prePrio r) (bound fs) ≡ v → Inv (cond v (wantStep word (waiting (op i false (prePrio r) (preBound r)) ∷ fs) out j (see T k)) dead) rest
+      go true w = wanted j k (afterPrefix s q refl refl (lt?-true (prePrio r) (bound fs) w) b)
       go false w = iDead
 
   aloned : {i e j : ℕ} {x : List ℕ} {y : Stop} {fs : Frames} {rest : List Tok} {out : Out} → isOp T x ≡ true →
@@ -371,45 +371,45 @@ module _ (word : NodeKind → ℕ → ℕ) (T : Table) (source : List Tok) where
   aloned o (afterPrefix s x v w z b) = iDead
   aloned o (afterInfix s d l x v w z q) = iDead
 
-  opped : {i e j : ℕ} {x : List ℕ} {k : Terminal} {fs : Frames} {rest : List Tok} {out : Out} (z : Option Stop) → stopOf k ≡ z → isOp T x ≡ true →
-      blocks (isMinus x) e k ≡ false → Held fs (tok i (name x e) ∷ tok j k ∷ rest) out → Inv (opStep word T z i (prefixOf T x) fs out (tok j k)) rest
+  opped : {i e j : ℕ} {x : List ℕ} {k : Terminal} {fs : Frames} {rest : List Tok} {out : Out} (z : Option Stop) → stopOf (see T k) ≡ z → isOp T x ≡ true →
+      blocks (isMinus x) e k ≡ false → Held fs (tok i (name x e) ∷ tok j k ∷ rest) out → Inv (opStep word z i (prefixOf T x) fs out j (see T k)) rest
   unfolding opStep
   opped {x} none q o b s = prefixed (prefixOf T x) refl b s
   opped {i} {e} {j} {x} {k} {fs} {rest} {out} (some y) q o b s =
       aloned o (subst (λ (z : Terminal). Held fs (tok i (name x e) ∷ tok j z ∷ rest) out) (stop-of k y q) s)
 
   pended : {i e j : ℕ} {x : List ℕ} {k : Terminal} {fs : Frames} {rest : List Tok} {out : Out} → Fair T →
-      Held fs (tok i (name x e) ∷ tok j k ∷ rest) out → Inv (pendStep word T i e (isMinus x) (prefixOf T x) (infixOf T x) fs out (tok j k)) rest
+      Held fs (tok i (name x e) ∷ tok j k ∷ rest) out → Inv (pendStep word i e (isMinus x) (prefixOf T x) (infixOf T x) fs out j (see T k)) rest
   unfolding pendStep push arity
-  pended {i} {e} {j} {x} {k} {fs} {rest} {out} fair s = go (blocks (isMinus x) e k) refl
+  pended {i} {e} {j} {x} {k} {fs} {rest} {out} fair s = rw (glues-blocks T (isMinus x) e k) (go (blocks (isMinus x) e k) refl)
     where
       free : blocks (isMinus x) e k ≡ false → (v : Bool) → isOp T x ≡ v →
-          Inv (cond v (opStep word T (stopOf k) i (prefixOf T x) fs out (tok j k)) (haveStep word T fs (nd i (word plain 0) ∷ out) (tok j k))) rest
-      free b true h = opped (stopOf k) refl h b s
-      free b false h = haved fair (tok j k) s (aName h) refl
+          Inv (cond v (opStep word (stopOf (see T k)) i (prefixOf T x) fs out j (see T k)) (haveStep word fs (nd i (word plain 0) ∷ out) j (see T k))) rest
+      free b true h = opped (stopOf (see T k)) refl h b s
+      free b false h = haved fair j k s (aName h) refl
 
       go : (v : Bool) → blocks (isMinus x) e k ≡ v →
           Inv
-          (cond v (gluedStep word i fs out k)
-          (cond (isOp T x) (opStep word T (stopOf k) i (prefixOf T x) fs out (tok j k)) (haveStep word T fs (nd i (word plain 0) ∷ out) (tok j k))))
+          (cond v (gluedStep word i fs out (see T k))
+          (cond (isOp T x) (opStep word (stopOf (see T k)) i (prefixOf T x) fs out j (see T k)) (haveStep word fs (nd i (word plain 0) ∷ out) j (see T k))))
           rest
       go true h = glued k refl h s
       go false h = free h (isOp T x) refl
 
-  stepped : {st : State} {o : Tok} {rest : List Tok} → Fair T → Inv st (o ∷ rest) → Inv (step word T st o) rest
+  stepped : {st : State} {j : ℕ} {k : Terminal} {rest : List Tok} → Fair T → Inv st (tok j k ∷ rest) → Inv (step word st j (see T k)) rest
   unfolding step begunStep
-  stepped {o} fair (iWant s) = wanted o s
-  stepped {o = tok j k} {rest} fair (iPend {i} {e} {x} {fs} {out} s m p q) =
+  stepped {j} {k} fair (iWant s) = wanted j k s
+  stepped {j} {k} {rest} fair (iPend {i} {e} {x} {fs} {out} s m p q) =
       rw (← m, ← p, ← q) (pended fair s)
-  stepped {o = tok j k} fair (iBegun b s) = begun-on (stopOf k) refl b s
-  stepped {o} fair (iHave s d e) = haved fair o s d e
+  stepped {j} {k} fair (iBegun b s) = begun-on (stopOf (see T k)) refl b s
+  stepped {j} {k} fair (iHave s d e) = haved fair j k s d e
   stepped fair iDead = iDead
   stepped fair (iDone p e) = iDead
 
   ran : (st : State) (ts : List Tok) → Fair T → Inv st ts → Inv (run word T st ts) []
   unfolding run
   ran st [] fair v = v
-  ran st (o ∷ ts) fair v = ran (step word T st o) ts fair (stepped fair v)
+  ran st (tok i k ∷ ts) fair v = ran (step word st i (see T k)) ts fair (stepped fair v)
 
   read : {out : Out} → Inv (done out) [] → (t : Tree) × Clause T source t × (push word t [] ≡ out)
   read (iDone {t} p e) = (t, clause p, e)

@@ -8,7 +8,7 @@ use lib.ListN.{length}
 use Rattle.reader.specs.Token.{Kind, Name, Variable, Number, Open, OpenCT, Close, OpenList, CloseList, OpenCurly, CloseCurly, HeadTailSeparator, Comma, End, Token, terminalAs, terminals, sameText}
 use Rattle.reader.specs.Ops.{spell, prePrio, preBound, prio, leftBound, rightBound, operators, findPre, findInf, prefixOf, infixOf, roled}
 use Rattle.reader.specs.Tree.{negative, call, prefix, infx, list, listTail, curly, emptyList, emptyCurly, kindNumber, Tree, node, leaf, nil, _◂_, arity}
-use Rattle.reader.specs.Grammar.{blocks, Reads}
+use Rattle.reader.specs.Grammar.{Reads}
 use Rattle.reader.specs.Machine
 use Rattle.reader.specs.Machine.{State, dead, done, run, start}
 use Rattle.reader.proofs.Basics.{push}
@@ -126,7 +126,7 @@ holds (row ps none ∷ rs) e =
 
 -- `unfolding computes` lets a run compute
 computes : Unit {0}
-unfolding terminalAs terminals sameText prePrio preBound prio leftBound rightBound findPre findInf prefixOf infixOf roled kindNumber arity blocks push wide Machine.placeOf Machine.bound Machine.actOf Machine.separates Machine.inside Machine.shuts Machine.emptyKind Machine.stopOf Machine.lt? Machine.pushAs Machine.emit Machine.reduce Machine.act Machine.actIf Machine.closing Machine.commaStep Machine.stopStep Machine.infixStep Machine.gluedStep Machine.wantStep Machine.haveStep Machine.prefixAs Machine.prefixStep Machine.opStep Machine.pendStep Machine.begunOn Machine.begunStep Machine.step Machine.run
+unfolding terminalAs terminals sameText prePrio preBound prio leftBound rightBound findPre findInf prefixOf infixOf roled kindNumber arity push wide Machine.placeOf Machine.bound Machine.actOf Machine.separates Machine.inside Machine.shuts Machine.emptyKind Machine.see Machine.stopOf Machine.glues Machine.lt? Machine.pushAs Machine.emit Machine.reduce Machine.act Machine.actIf Machine.closing Machine.commaStep Machine.stopStep Machine.infixStep Machine.gluedStep Machine.wantStep Machine.haveStep Machine.prefixAs Machine.prefixStep Machine.opStep Machine.pendStep Machine.begunOn Machine.begunStep Machine.step Machine.run
 computes = tt
 
 pub specimens : All table

@@ -18,11 +18,11 @@ data In (e : Entry) : Table → Type 0 where
   here : {T : Table} → In e (e ∷ T)
   there : {f : Entry} {T : Table} → In e T → In e (f ∷ T)
 
-and-left : (a b : Bool) → a && b ≡ true → a ≡ true
+pub and-left : (a b : Bool) → a && b ≡ true → a ≡ true
 and-left true b h = refl
 and-left false b h = h
 
-and-right : (a b : Bool) → a && b ≡ true → b ≡ true
+pub and-right : (a b : Bool) → a && b ≡ true → b ≡ true
 and-right true b h = h
 and-right false b h = absurd (false≢true h)
 

@@ -1,4 +1,4 @@
--- What is proved of the grammar and the machine, for every admitted table. Statements only: each cites its proof. Assumes nothing.
+-- What is proved of the grammar, the machine, for every admitted table, and of the clause call. Statements only: each cites its proof. Assumes nothing.
 use Prim.Native.Nat.{ℕ, _+_, _*_, _≤_, _<_}
 use mathlib.Core.Path.{_≡_}
 use mathlib.Core.Bool.{true}
@@ -6,16 +6,20 @@ use mathlib.Core.Logic.{_⊎_, _↔_}
 use mathlib.Core.Option.{some}
 use mathlib.Core.List.{List}
 use lib.ListN.{length}
+use Rattle.lexer.specs.declared.cursor.Cursor.{Cursor}
 use Rattle.reader.specs.Token.{Tok, sameText}
 use Rattle.reader.specs.Ops.{Table, operators}
 use Rattle.reader.specs.Admitted.{admits}
 use Rattle.reader.specs.Tree.{Tree, packed, numbers}
 use Rattle.reader.specs.Grammar.{Clause}
-use Rattle.reader.specs.Machine.{Out, done, run, start, answer}
+use Rattle.reader.specs.Machine.{Out, done, run, start, answer, Numbered}
+use Rattle.reader.specs.Clause.{Outcome}
+use Rattle.reader.specs.declared.clause.ClauseAnswer.{ClauseAnswer}
+use Rattle.reader.proofs.Outcomes.{some-outcome, one-outcome}
 use Rattle.reader.proofs.Table.{same-exactly, fair, operators-admitted}
 use Rattle.reader.proofs.Answer.{answer-complete, answer-sound, one-tree, reads?, tree-small}
 use Rattle.reader.proofs.Specimens.{All, table, specimens}
-use Rattle.reader.proofs.Size.{Numbered, framesIn, nodesIn, words-fit, places-fit, nodes-fit}
+use Rattle.reader.proofs.Size.{framesIn, nodesIn, words-fit, places-fit, nodes-fit}
 
 -- Document 01's table is admitted.
 pub table-admitted : admits operators ≡ true
@@ -61,3 +65,11 @@ names-by-text = same-exactly
 -- Document 01's clause specimens, under its table.
 pub document-01 : All table
 document-01 = specimens
+
+-- The clause call: whatever the text, the cursor and the tree slice, one answer and one content of the slice are permitted.
+module _ (s : List ℕ) (c : Cursor) (d : List ℕ) where
+  pub an-outcome : (r : ClauseAnswer) × (x : List ℕ) × Outcome s c d r x
+  an-outcome = some-outcome s c d
+
+  pub clause-coincides : {r r′ : ClauseAnswer} {x x′ : List ℕ} → Outcome s c d r x → Outcome s c d r′ x′ → (r ≡ r′) × (x ≡ x′)
+  clause-coincides = one-outcome s c d

@@ -3,4 +3,10 @@ pub mod Ops
 pub mod Admitted
 pub mod Tree
 pub mod Grammar
+pub mod Clause
 pub mod Machine
+pub mod Weight
+pub mod Layout
+pub mod Names
+pub mod Roles
+pub mod Gather

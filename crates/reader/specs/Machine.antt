@@ -1,15 +1,14 @@
 -- The machine that reads a clause: one stack of frames, one token at a time, dead at the first token that cannot stand.
 -- The contracts of the code cite it; what it is worth is in proofs/Theorems. It works in the code's order: a stop first completes operators, then
 -- looks at the bracket. `word` packs a node's kind and arity. Assumes nothing.
-use Prim.Native.Nat.{ℕ, _+_}
-use mathlib.Core.Bool.{Bool, true, false, cond}
+use Prim.Native.Nat.{ℕ, _+_, _≤_}
+use mathlib.Core.Bool.{Bool, true, false, _&&_, cond}
 use mathlib.Core.Option.{Option, none, some}
 use mathlib.Core.List.{List, [], _∷_, _++_}
-use lib.Dec.{ltb}
+use lib.Dec.{eqb, ltb}
 use Rattle.reader.specs.Token.{Stop, close, closeList, closeCurly, bar, doubleBar, comma, endMark, Terminal, name, number, varOrString, round, square, brace, stop, Tok, tok}
 use Rattle.reader.specs.Ops.{Pre, Inf, prePrio, preBound, prio, leftBound, rightBound, Table, prefixOf, infixOf, isMinus, roled}
 use Rattle.reader.specs.Tree.{NodeKind, plain, negative, call, prefix, infx, list, listTail, curly, emptyList, emptyCurly}
-use Rattle.reader.specs.Grammar.{blocks}
 
 -- A node: token index, packed kind and arity. The last written comes first.
 pub data Node : Type 0 where
@@ -152,14 +151,42 @@ emptyKind braces = emptyCurly
 abbrev pub aboveAll : ℕ
 aboveAll = 1201
 
-unfoldable pub stopOf : Terminal → Option Stop
-stopOf (name x e) = none
-stopOf (number s) = none
-stopOf varOrString = none
-stopOf (round ct) = none
-stopOf square = none
-stopOf brace = none
-stopOf (stop x) = some x
+-- What the machine sees of a token. A name: where it ends, is it the minus, its roles. A number: where it begins. A round bracket: is it OpenCT.
+pub data Sight : Type 0 where
+  seenName : ℕ → Bool → Option Pre → Option Inf → Sight
+  seenNumber : ℕ → Sight
+  seenVarOrString : Sight
+  seenRound : Bool → Sight
+  seenSquare seenBrace : Sight
+  seenStop : Stop → Sight
+
+unfoldable pub see : Table → Terminal → Sight
+see T (name x e) = seenName e (isMinus x) (prefixOf T x) (infixOf T x)
+see T (number s) = seenNumber s
+see T varOrString = seenVarOrString
+see T (round ct) = seenRound ct
+see T square = seenSquare
+see T brace = seenBrace
+see T (stop x) = seenStop x
+
+unfoldable pub stopOf : Sight → Option Stop
+stopOf (seenName e m r s) = none
+stopOf (seenNumber s) = none
+stopOf seenVarOrString = none
+stopOf (seenRound ct) = none
+stopOf seenSquare = none
+stopOf seenBrace = none
+stopOf (seenStop x) = some x
+
+-- the grammar's `blocks`, of what is seen: is it the minus, where it ends, the next token
+unfoldable pub glues : Bool → ℕ → Sight → Bool
+glues minus e (seenName f m r s) = false
+glues minus e (seenNumber s) = minus && eqb e s
+glues minus e seenVarOrString = false
+glues minus e (seenRound ct) = ct
+glues minus e seenSquare = false
+glues minus e seenBrace = false
+glues minus e (seenStop x) = false
 
 -- kept shut, so that a test can be rewritten
 unfoldable pub lt? : ℕ → ℕ → Bool
@@ -225,71 +252,71 @@ module _ (word : NodeKind → ℕ → ℕ) where
   infixStep i (some r) fs out = pushAs i (prio r) (rightBound r) (reduce (leftBound r) fs out)
 
   -- after a name that an OpenCT or a glued number follows: a call, or a negative number
-  unfoldable pub gluedStep : ℕ → Frames → Out → Terminal → State
-  gluedStep i fs out (name x e) = dead
-  gluedStep i fs out (number s) = have fs (nd i (word negative 0) ∷ out)
-  gluedStep i fs out varOrString = dead
-  gluedStep i fs out (round ct) = want (opened (inSeq inCall i 0) ∷ fs) out
-  gluedStep i fs out square = dead
-  gluedStep i fs out brace = dead
-  gluedStep i fs out (stop x) = dead
+  unfoldable pub gluedStep : ℕ → Frames → Out → Sight → State
+  gluedStep i fs out (seenName e m r s) = dead
+  gluedStep i fs out (seenNumber s) = have fs (nd i (word negative 0) ∷ out)
+  gluedStep i fs out seenVarOrString = dead
+  gluedStep i fs out (seenRound ct) = want (opened (inSeq inCall i 0) ∷ fs) out
+  gluedStep i fs out seenSquare = dead
+  gluedStep i fs out seenBrace = dead
+  gluedStep i fs out (seenStop x) = dead
 
-  module _ (T : Table) where
-    unfoldable pub wantStep : Frames → Out → Tok → State
-    wantStep fs out (tok i (name x e)) = pend i e (isMinus x) (prefixOf T x) (infixOf T x) fs out
-    wantStep fs out (tok i (number s)) = have fs (nd i (word plain 0) ∷ out)
-    wantStep fs out (tok i varOrString) = have fs (nd i (word plain 0) ∷ out)
-    wantStep fs out (tok i (round ct)) = want (opened inRound ∷ fs) out
-    wantStep fs out (tok i square) = begun squares i fs out
-    wantStep fs out (tok i brace) = begun braces i fs out
-    wantStep fs out (tok i (stop x)) = dead
+  unfoldable pub wantStep : Frames → Out → ℕ → Sight → State
+  wantStep fs out i (seenName e m r s) = pend i e m r s fs out
+  wantStep fs out i (seenNumber s) = have fs (nd i (word plain 0) ∷ out)
+  wantStep fs out i seenVarOrString = have fs (nd i (word plain 0) ∷ out)
+  wantStep fs out i (seenRound ct) = want (opened inRound ∷ fs) out
+  wantStep fs out i seenSquare = begun squares i fs out
+  wantStep fs out i seenBrace = begun braces i fs out
+  wantStep fs out i (seenStop x) = dead
 
-    unfoldable pub haveStep : Frames → Out → Tok → State
-    haveStep fs out (tok i (name x e)) = infixStep i (infixOf T x) fs out
-    haveStep fs out (tok i (number s)) = dead
-    haveStep fs out (tok i varOrString) = dead
-    haveStep fs out (tok i (round ct)) = dead
-    haveStep fs out (tok i square) = dead
-    haveStep fs out (tok i brace) = dead
-    haveStep fs out (tok i (stop x)) = stopStep x i fs out
+  unfoldable pub haveStep : Frames → Out → ℕ → Sight → State
+  haveStep fs out i (seenName e m r s) = infixStep i s fs out
+  haveStep fs out i (seenNumber s) = dead
+  haveStep fs out i seenVarOrString = dead
+  haveStep fs out i (seenRound ct) = dead
+  haveStep fs out i seenSquare = dead
+  haveStep fs out i seenBrace = dead
+  haveStep fs out i (seenStop x) = stopStep x i fs out
 
-    -- the name i becomes a prefix operator of priority p, and the token is the first of its operand
-    unfoldable pub prefixAs : ℕ → ℕ → ℕ → Frames → Out → Tok → State
-    prefixAs i p b fs out t = cond (lt? p (bound fs)) (wantStep (waiting (op i false p b) ∷ fs) out t) dead
+  -- the name i becomes a prefix operator of priority p, and the token j is the first of its operand
+  unfoldable pub prefixAs : ℕ → ℕ → ℕ → Frames → Out → ℕ → Sight → State
+  prefixAs i p b fs out j k = cond (lt? p (bound fs)) (wantStep (waiting (op i false p b) ∷ fs) out j k) dead
 
-    unfoldable pub prefixStep : ℕ → Option Pre → Frames → Out → Tok → State
-    prefixStep i none fs out t = dead
-    prefixStep i (some r) fs out t = prefixAs i (prePrio r) (preBound r) fs out t
+  unfoldable pub prefixStep : ℕ → Option Pre → Frames → Out → ℕ → Sight → State
+  prefixStep i none fs out j k = dead
+  prefixStep i (some r) fs out j k = prefixAs i (prePrio r) (preBound r) fs out j k
 
-    -- after an operator name that nothing glued follows: alone in its place where a stop follows, else a prefix operator
-    unfoldable pub opStep : Option Stop → ℕ → Option Pre → Frames → Out → Tok → State
-    opStep none i r fs out t = prefixStep i r fs out t
-    opStep (some x) i r fs out t = closing x (red fs (nd i (word plain 0) ∷ out))
+  -- after an operator name that nothing glued follows: alone in its place where a stop follows, else a prefix operator
+  unfoldable pub opStep : Option Stop → ℕ → Option Pre → Frames → Out → ℕ → Sight → State
+  opStep none i r fs out j k = prefixStep i r fs out j k
+  opStep (some x) i r fs out j k = closing x (red fs (nd i (word plain 0) ∷ out))
 
-    unfoldable pub pendStep : ℕ → ℕ → Bool → Option Pre → Option Inf → Frames → Out → Tok → State
-    pendStep i e m r s fs out (tok j k) =
-        cond (blocks m e k) (gluedStep i fs out k)
-        (cond (roled r s) (opStep (stopOf k) i r fs out (tok j k)) (haveStep fs (nd i (word plain 0) ∷ out) (tok j k)))
+  unfoldable pub pendStep : ℕ → ℕ → Bool → Option Pre → Option Inf → Frames → Out → ℕ → Sight → State
+  pendStep i e m r s fs out j k =
+      cond (glues m e k) (gluedStep i fs out k)
+      (cond (roled r s) (opStep (stopOf k) i r fs out j k) (haveStep fs (nd i (word plain 0) ∷ out) j k))
 
-    -- after `[` or `{`: the closing bracket at once, or the first token of a place
-    unfoldable pub begunOn : Option Stop → Shape → ℕ → Frames → Out → Tok → State
-    begunOn none h i fs out t = wantStep (opened (inside h i) ∷ fs) out t
-    begunOn (some x) h i fs out t = cond (shuts h x) (have fs (nd i (word (emptyKind h) 0) ∷ out)) dead
+  -- after `[` or `{`: the closing bracket at once, or the first token of a place
+  unfoldable pub begunOn : Option Stop → Shape → ℕ → Frames → Out → ℕ → Sight → State
+  begunOn none h i fs out j k = wantStep (opened (inside h i) ∷ fs) out j k
+  begunOn (some x) h i fs out j k = cond (shuts h x) (have fs (nd i (word (emptyKind h) 0) ∷ out)) dead
 
-    unfoldable pub begunStep : Shape → ℕ → Frames → Out → Tok → State
-    begunStep h i fs out (tok j k) = begunOn (stopOf k) h i fs out (tok j k)
+  unfoldable pub begunStep : Shape → ℕ → Frames → Out → ℕ → Sight → State
+  begunStep h i fs out j k = begunOn (stopOf k) h i fs out j k
 
-    unfoldable pub step : State → Tok → State
-    step (want fs out) t = wantStep fs out t
-    step (pend i e m r s fs out) t = pendStep i e m r s fs out t
-    step (begun h i fs out) t = begunStep h i fs out t
-    step (have fs out) t = haveStep fs out t
-    step dead t = dead
-    step (done out) t = dead
+  -- one token: its index, and what is seen of it
+  unfoldable pub step : State → ℕ → Sight → State
+  step (want fs out) j k = wantStep fs out j k
+  step (pend i e m r s fs out) j k = pendStep i e m r s fs out j k
+  step (begun h i fs out) j k = begunStep h i fs out j k
+  step (have fs out) j k = haveStep fs out j k
+  step dead j k = dead
+  step (done out) j k = dead
 
-    unfoldable pub run : State → List Tok → State
-    run s [] = s
-    run s (t ∷ ts) = run (step s t) ts
+  unfoldable pub run : Table → State → List Tok → State
+  run T s [] = s
+  run T s (tok i k ∷ ts) = run T (step s i (see T k)) ts
 
 abbrev pub start : State
 start = want (opened top ∷ []) []
@@ -307,3 +334,17 @@ answer (begun h i fs out) = none
 answer (have fs out) = none
 answer dead = none
 answer (done out) = some (laid out)
+
+-- How much a frame counts for: one, and the places before the one that is being read.
+unfoldable pub size : Frame → ℕ
+size (waiting o) = 1
+size (opened top) = 1
+size (opened inRound) = 1
+size (opened (inCurly i)) = 1
+size (opened (inSeq k i c)) = c + 1
+size (opened (inTail i c)) = c + 1
+
+-- every frame counts for n at most
+pub data Numbered (n : ℕ) : Frames → Type 0 where
+  none-left : Numbered n []
+  one-more : {f : Frame} {fs : Frames} → size f ≤ n → Numbered n fs → Numbered n (f ∷ fs)

@@ -1,1 +1,9 @@
-// The clause reader. Its definitions stand in specs/ and their theory in proofs/; the code is still to come.
+// The clause reader: tokens to an end mark, read by the grammar of document 01. It stands above the tokenizer and relies on its promises alone.
+mod clause;
+mod machine;
+mod operators;
+mod ops;
+mod roles;
+
+pub use clause::ClauseAnswer;
+pub use clause::read_clause;

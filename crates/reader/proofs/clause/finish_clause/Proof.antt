@@ -1,0 +1,142 @@
+-- `reader::clause::finish_clause` meets its contract. Assumes nothing.
+use Prim.Native.Nat.{ℕ, _≤_}
+use mathlib.Core.Path.{_≡_, ap, _∙_, sym}
+use mathlib.Core.Bool.{true}
+use mathlib.Core.Option.{some}
+use mathlib.Core.List.{List}
+use native.Mathlib.Omega.{arith}
+use borrow.Author.Needs.{needs}
+use lib.ListN.{length}
+use Rattle.lexer.specs.Cursor.{valid}
+use Rattle.lexer.specs.Refusal.{fault}
+use Rattle.lexer.specs.declared.cursor.Cursor.{Cursor}
+use Rattle.lexer.specs.declared.refusal.Refusal.the-variants.{NoReading}
+use Rattle.reader.specs.Weight.{weight}
+use Rattle.reader.specs.Layout.{outOf, stateOf}
+use Rattle.reader.specs.Clause.{firstOffset}
+use Rattle.reader.specs.Gather.{leaves, nodesOf, byNodes, Finished, Finishing}
+use Rattle.reader.specs.declared.machine.Spot.{Spot}
+use Rattle.reader.specs.declared.machine.Pending.{Pending}
+use Rattle.reader.specs.declared.machine.Shape.{Shape}
+use Rattle.reader.specs.declared.machine.Mode.{Mode}
+use Rattle.reader.specs.declared.clause.ClauseAnswer.{ClauseAnswer}
+use Rattle.reader.proofs.Turns.{length-out}
+use Rattle.reader.proofs.clause.finish_clause.Statement.{statement}
+use Rattle.reader.proofs.clause.finish_clause.Tie as tie
+
+module _ (s : List ℕ) (c : Cursor) (m : Mode) (e : Cursor) (st ns d : List ℕ) where
+  module _ (n : ℕ) (f : m ≡ Mode.Done n) where
+    finished : Finishing s c m st ns → Finished s c n ns
+    unfolding weight stateOf
+    finished w =
+        let g : weight (stateOf (Mode.Done n) st ns) ≤ 1025 = rw f at (w .weight-left) in
+        record { valid-cursor = w .valid-cursor; nodes = omega (arith, w .words, length-out ns n); words = omega (arith, w .words) }
+
+    accepted : (r : ClauseAnswer) (d′ : List ℕ) → leaves r d′ ≡ byNodes s c d e (some (outOf ns n)) → leaves r d′ ≡ byNodes s c d e (nodesOf (stateOf m st ns))
+    unfolding nodesOf stateOf
+    accepted r d′ g = g ∙ sym (ap (λ (x : Mode). byNodes s c d e (nodesOf (stateOf x st ns))) f)
+
+  module _ (r : ClauseAnswer) (g : r ≡ ClauseAnswer.Refused (fault NoReading (firstOffset s c)) c) where
+    wants : (p : Spot) → m ≡ Mode.Want p → leaves r d ≡ byNodes s c d e (nodesOf (stateOf m st ns))
+    unfolding nodesOf stateOf byNodes
+    wants p f = cc
+
+    pends : (p : Spot) (q : Pending) → m ≡ Mode.Pend p q → leaves r d ≡ byNodes s c d e (nodesOf (stateOf m st ns))
+    unfolding nodesOf stateOf byNodes
+    pends p q f = cc
+
+    begins : (p : Spot) (h : Shape) (i : ℕ) → m ≡ Mode.Begun p h i → leaves r d ≡ byNodes s c d e (nodesOf (stateOf m st ns))
+    unfolding nodesOf stateOf byNodes
+    begins p h i f = cc
+
+    has : (p : Spot) → m ≡ Mode.Have p → leaves r d ≡ byNodes s c d e (nodesOf (stateOf m st ns))
+    unfolding nodesOf stateOf byNodes
+    has p f = cc
+
+    died : m ≡ Mode.Dead → leaves r d ≡ byNodes s c d e (nodesOf (stateOf m st ns))
+    unfolding nodesOf stateOf byNodes
+    died f = cc
+
+ruleset ways = (finished, accepted, wants, pends, begins, has, died, needs)
+
+-- answers
+enum-known-mode : tie.Need-enum-known-mode
+enum-known-mode c = search ways
+
+write-clause-requires : tie.Need-write-clause-requires
+write-clause-requires c κs = search ways
+
+enum-told : tie.Need-enum-told
+enum-told c = search ways
+
+clause-refused-requires : tie.Need-clause-refused-requires
+clause-refused-requires c κs = search ways
+
+enum-told-2 : tie.Need-enum-told-2
+enum-told-2 c = search ways
+
+clause-refused-requires-2 : tie.Need-clause-refused-requires-2
+clause-refused-requires-2 c κs = search ways
+
+enum-told-3 : tie.Need-enum-told-3
+enum-told-3 c = search ways
+
+clause-refused-requires-3 : tie.Need-clause-refused-requires-3
+clause-refused-requires-3 c κs = search ways
+
+enum-told-4 : tie.Need-enum-told-4
+enum-told-4 c = search ways
+
+clause-refused-requires-4 : tie.Need-clause-refused-requires-4
+clause-refused-requires-4 c κs = search ways
+
+enum-told-5 : tie.Need-enum-told-5
+enum-told-5 c = search ways
+
+clause-refused-requires-5 : tie.Need-clause-refused-requires-5
+clause-refused-requires-5 c κs = search ways
+
+same-length : tie.Need-same-length
+same-length c = search ways
+
+returns : tie.Need-returns
+returns c = search ways
+
+returns-2 : tie.Need-returns-2
+returns-2 c = search ways
+
+returns-3 : tie.Need-returns-3
+returns-3 c = search ways
+
+returns-4 : tie.Need-returns-4
+returns-4 c = search ways
+
+returns-5 : tie.Need-returns-5
+returns-5 c = search ways
+
+returns-6 : tie.Need-returns-6
+returns-6 c = search ways
+
+pub finish-clause-spec : {M : Type 1} → statement M
+finish-clause-spec =
+    tie.close
+    (tie.spec
+    enum-known-mode
+    write-clause-requires
+    enum-told
+    clause-refused-requires
+    enum-told-2
+    clause-refused-requires-2
+    enum-told-3
+    clause-refused-requires-3
+    enum-told-4
+    clause-refused-requires-4
+    enum-told-5
+    clause-refused-requires-5
+    same-length
+    returns
+    returns-2
+    returns-3
+    returns-4
+    returns-5
+    returns-6)

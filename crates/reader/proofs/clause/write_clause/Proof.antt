@@ -1,0 +1,66 @@
+-- `reader::clause::write_clause` meets its contract. Assumes nothing.
+use Prim.Native.Nat.{ℕ, _*_, _<_, _≤_}
+use mathlib.Core.Path.{_≡_}
+use mathlib.Core.Option.{some}
+use mathlib.Core.List.{List}
+use native.Mathlib.Omega.{arith}
+use borrow.Author.Needs.{needs}
+use borrow.Author.Tests.{le-leb, lt-leb}
+use lib.ListN.{length}
+use lib.Seq.{sets}
+use Rattle.lexer.specs.Refusal.{fault}
+use Rattle.lexer.specs.declared.cursor.Cursor.{Cursor}
+use Rattle.lexer.specs.declared.refusal.Refusal.the-variants.{NoRoom}
+use Rattle.reader.specs.Machine.{laid}
+use Rattle.reader.specs.Layout.{outOf, Copies}
+use Rattle.reader.specs.Clause.{firstOffset}
+use Rattle.reader.specs.Gather.{leaves, byNodes, Finished}
+use Rattle.reader.specs.declared.clause.ClauseAnswer.{ClauseAnswer}
+use Rattle.reader.proofs.Turns.{length-out}
+use Rattle.reader.proofs.clause.write_clause.Statement.{statement}
+use Rattle.reader.proofs.clause.write_clause.Tie as tie
+
+module _ (s : List ℕ) (c : Cursor) (n : ℕ) (ns d : List ℕ) (e : Cursor) where
+  no-room : (r : ClauseAnswer) → length d < 2 * n → r ≡ ClauseAnswer.Refused (fault NoRoom (firstOffset s c)) c → leaves r d ≡ byNodes s c d e (some (outOf ns n))
+  unfolding byNodes
+  no-room r h f =
+      let m = length-out ns n in
+      cc (lt-leb (2 * length (outOf ns n)) (length d) (omega arith))
+
+  copies : Finished s c n ns → 2 * n ≤ length d → Copies ns d n
+  copies w h = record { words = w .nodes; room = h }
+
+  written : (d′ : List ℕ) → 2 * n ≤ length d → d′ ≡ sets d 0 (laid (outOf ns n)) → leaves (ClauseAnswer.Read n e) d′ ≡ byNodes s c d e (some (outOf ns n))
+  unfolding byNodes
+  written d′ h f =
+      let m = length-out ns n in
+      cc (le-leb (2 * length (outOf ns n)) (length d) (omega arith))
+
+twice-fits : (s : List ℕ) (c : Cursor) (n : ℕ) (ns : List ℕ) → Finished s c n ns → n ≤ 1024
+twice-fits s c n ns w = omega (arith, w .nodes, w .words)
+
+ruleset ways = (no-room, copies, written, twice-fits, needs)
+
+-- answers
+mul-if1 : tie.Need-mul-if1
+mul-if1 c = search ways
+
+clause-refused-requires : tie.Need-clause-refused-requires
+clause-refused-requires c κs = search ways
+
+returns : tie.Need-returns
+returns c = search ways
+
+put-tree-requires : tie.Need-put-tree-requires
+put-tree-requires c κs = search ways
+
+same-length : tie.Need-same-length
+same-length c = search ways
+
+returns-2 : tie.Need-returns-2
+returns-2 c = search ways
+
+pub write-clause-spec : {M : Type 1} → statement M
+write-clause-spec =
+    tie.close
+    (tie.spec mul-if1 clause-refused-requires returns put-tree-requires same-length returns-2)

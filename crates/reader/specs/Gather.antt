@@ -1,0 +1,177 @@
+-- What the private functions of the clause call promise. Definitions only.
+use Prim.Native.Nat.{ℕ, zero, suc, _+_, _*_, _<_, _≤_}
+use mathlib.Core.Path.{_≡_}
+use mathlib.Core.Bool.{Bool, true, false, cond}
+use mathlib.Core.Option.{Option, none, some}
+use mathlib.Core.List.{List, [], _∷_}
+use lib.Dec.{eqb, leb}
+use lib.ListN.{length}
+use lib.Seq.{sets}
+use Rattle.lexer.specs.Cursor.{valid, moveTo}
+use Rattle.lexer.specs.Refusal.{fault}
+use Rattle.lexer.specs.Token.{Lexeme, lexeme, refused, decoded, readLexeme, nextToken, notValid}
+use Rattle.lexer.specs.declared.cursor.Cursor.{Cursor}
+use Rattle.lexer.specs.declared.refusal.Fault.{Fault}
+use Rattle.lexer.specs.declared.refusal.Refusal.the-variants.{NoRoom, TooManyTokens, NoReading}
+use Rattle.lexer.specs.declared.token.Token as lexer
+use Rattle.lexer.specs.declared.token.Answer.{Answer}
+use Rattle.reader.specs.Token.{Name, End, Token, terminalAs, terminals}
+use Rattle.reader.specs.Ops.{operators}
+use Rattle.reader.specs.Tree.{packed}
+use Rattle.reader.specs.Machine as M
+use Rattle.reader.specs.Machine.{Out, State, want, pend, begun, have, dead, done, see, run, start, laid}
+use Rattle.reader.specs.Weight.{weight}
+use Rattle.reader.specs.Clause.{mostTokens, Gathered, whole, stopped, tooMany, tokenIn, isEnd, clauseTokens, firstOffset}
+use Rattle.reader.specs.Layout.{stateOf}
+use Rattle.reader.specs.declared.machine.Mode.{Mode}
+use Rattle.reader.specs.declared.clause.Turn.{Turn}
+use Rattle.reader.specs.declared.clause.Machined.{Machined}
+use Rattle.reader.specs.declared.clause.ClauseAnswer.{ClauseAnswer}
+use Rattle.reader.specs.declared.clause.ClauseAnswer.the-variants.{Read, Refused}
+
+-- ---- one token
+
+-- the clause's token that was read at an offset (what stands for a refusal is never asked for)
+unfoldable pub tokenOf : List ℕ → Lexeme → Token
+tokenOf s (lexeme t e x) = tokenIn s t e x
+tokenOf s (refused w) = record { kind = End; text = []; start = 0; end = 0 }
+
+abbrev pub tokenFrom : List ℕ → Cursor → Token
+tokenFrom s c = tokenOf s (readLexeme false s (c .offset))
+
+-- what the machine sees of it
+abbrev pub seen : Token → M.Sight
+seen t = see operators (terminalAs (t .kind) t)
+
+abbrev pub sightFrom : List ℕ → Cursor → M.Sight
+sightFrom s c = seen (tokenFrom s c)
+
+-- a token that the token call read at c, with the cursor d behind it
+pub record ReadFrom (s : List ℕ) (c : Cursor) (t : lexer.Token) (d : Cursor) : Type 0 where
+  pub reads : nextToken s c ≡ Answer.Read t d
+
+-- and that is a name
+pub record NameFrom (s : List ℕ) (c : Cursor) (t : lexer.Token) (d : Cursor) : Type 0 where
+  pub reads : nextToken s c ≡ Answer.Read t d
+  pub name : t .kind ≡ Name
+
+-- a quoted name behind the cursor
+pub record QuotedFrom (s : List ℕ) (c : Cursor) : Type 0 where
+  pub valid-cursor : valid (length s) c ≡ true
+  pub token : lexer.Token
+  pub end : ℕ
+  pub bytes : List ℕ
+  pub reads : readLexeme false s (c .offset) ≡ lexeme token end (decoded bytes)
+
+-- ---- the machine over the tokens of a clause
+
+-- behind the end mark, with the machine there; or a token's refusal; or too many tokens
+pub data Result : Type 0 where
+  finished : State → Cursor → Result
+  halted : Fault → Result
+  overflow : Result
+
+-- the machine at z takes the token i, which was read from c, and goes on where it is no end mark
+unfoldable pub runOn : List ℕ → Cursor → ℕ → State → Lexeme → (State → Cursor → Result) → Result
+runOn s c i z (refused w) next = halted w
+runOn s c i z (lexeme t e x) next =
+    cond (isEnd (t .kind)) (finished (M.step packed z i (seen (tokenIn s t e x))) (moveTo s c e)) (next (M.step packed z i (seen (tokenIn s t e x))) (moveTo s c e))
+
+-- n tokens at most, from the token i on
+unfoldable pub clauseRun : ℕ → ℕ → State → List ℕ → Cursor → Result
+clauseRun zero i z s c = overflow
+clauseRun (suc n) i z s c = runOn s c i z (readLexeme false s (c .offset)) (λ y d. clauseRun n (i + 1) y s d)
+
+-- ---- what the code keeps of it
+
+-- one token: the machine goes on, or stands behind the end mark; a 1,024th token that is none is one too many
+pub data Turned : Type 0 where
+  more : State → Cursor → Turned
+  last : State → Cursor → Turned
+  stop : Fault → Turned
+  full : Turned
+
+unfoldable pub turnedBy : List ℕ → Cursor → ℕ → State → Lexeme → Turned
+turnedBy s c i z (refused w) = stop w
+turnedBy s c i z (lexeme t e x) =
+    cond (isEnd (t .kind)) (last (M.step packed z i (seen (tokenIn s t e x))) (moveTo s c e))
+    (cond (eqb i 1023) full (more (M.step packed z i (seen (tokenIn s t e x))) (moveTo s c e)))
+
+abbrev pub turnFrom : List ℕ → Cursor → ℕ → State → Turned
+turnFrom s c i z = turnedBy s c i z (readLexeme false s (c .offset))
+
+unfoldable pub turnOf : Turn → List ℕ → List ℕ → Turned
+turnOf (Turn.More m d) st ns = more (stateOf m st ns) d
+turnOf (Turn.Last m d) st ns = last (stateOf m st ns) d
+turnOf (Turn.Stopped w) st ns = stop w
+turnOf Turn.TooMany st ns = full
+
+unfoldable pub resultOf : Machined → List ℕ → List ℕ → Result
+resultOf (Machined.Whole m d) st ns = finished (stateOf m st ns) d
+resultOf (Machined.Stopped w) st ns = halted w
+resultOf Machined.TooMany st ns = overflow
+
+-- ---- what the code asks
+
+-- arrays of 1,024, of which the machine behind i tokens takes i + 1 words at most
+pub record Turning (s : List ℕ) (c : Cursor) (i : ℕ) (m : Mode) (st ns : List ℕ) : Type 0 where
+  pub valid-cursor : valid (length s) c ≡ true
+  pub index : i ≤ 1023
+  pub frames : length st ≡ mostTokens
+  pub nodes : length ns ≡ mostTokens
+  pub words : weight (stateOf m st ns) ≤ i + 1
+
+pub record Taking (s : List ℕ) (c : Cursor) (st ns : List ℕ) : Type 0 where
+  pub valid-cursor : valid (length s) c ≡ true
+  pub frames : length st ≡ mostTokens
+  pub nodes : length ns ≡ mostTokens
+
+-- ---- the whole call
+-- an answer, and what is left in the tree slice
+pub data Left : Type 0 where
+  leaves : ClauseAnswer → List ℕ → Left
+
+-- the nodes of a machine that is done
+unfoldable pub nodesOf : State → Option Out
+nodesOf (want fs out) = none
+nodesOf (pend i e m r x fs out) = none
+nodesOf (begun h i fs out) = none
+nodesOf (have fs out) = none
+nodesOf dead = none
+nodesOf (done out) = some out
+
+-- the machine behind the tokens of a clause
+abbrev pub machineAfter : List Token → State
+machineAfter ts = run packed operators start (terminals 0 ts)
+
+module _ (s : List ℕ) (c : Cursor) (d : List ℕ) where
+  unfoldable pub byNodes : Cursor → Option Out → Left
+  byNodes e none = leaves (Refused (fault NoReading (firstOffset s c)) c) d
+  byNodes e (some out) =
+      cond (leb (2 * length out) (length d)) (leaves (Read (length out) e) (sets d 0 (laid out))) (leaves (Refused (fault NoRoom (firstOffset s c)) c) d)
+
+  unfoldable pub byTokens : Gathered → Left
+  byTokens (stopped w) = leaves (Refused w c) d
+  byTokens tooMany = leaves (Refused (fault TooManyTokens (firstOffset s c)) c) d
+  byTokens (whole ts e) = byNodes e (nodesOf (machineAfter ts))
+
+  unfoldable pub clauseBy : Left
+  clauseBy = cond (valid (length s) c) (byTokens (clauseTokens s c)) (leaves (Refused notValid c) d)
+
+-- the same of the run over the tokens
+unfoldable pub byResult : List ℕ → Cursor → List ℕ → Result → Left
+byResult s c d (halted w) = leaves (Refused w c) d
+byResult s c d overflow = leaves (Refused (fault TooManyTokens (firstOffset s c)) c) d
+byResult s c d (finished z e) = byNodes s c d e (nodesOf z)
+
+-- ---- what these functions ask
+
+pub record Finished (s : List ℕ) (c : Cursor) (n : ℕ) (ns : List ℕ) : Type 0 where
+  pub valid-cursor : valid (length s) c ≡ true
+  pub nodes : n ≤ length ns
+  pub words : length ns ≤ mostTokens
+
+pub record Finishing (s : List ℕ) (c : Cursor) (m : Mode) (st ns : List ℕ) : Type 0 where
+  pub valid-cursor : valid (length s) c ≡ true
+  pub words : length ns ≡ mostTokens
+  pub weight-left : weight (stateOf m st ns) ≤ mostTokens + 1

@@ -1,0 +1,312 @@
+// The clause call.
+use crate::machine::Mode;
+use crate::machine::Sight;
+use crate::machine::Stop;
+use crate::machine::put_tree;
+use crate::machine::start;
+use crate::machine::step;
+use crate::ops::roles_of;
+use crate::roles::NO_ROLES;
+use crate::roles::Roles;
+use lexer::Answer;
+use lexer::Cursor;
+use lexer::Fault;
+use lexer::Kind;
+use lexer::Part;
+use lexer::Refusal;
+use lexer::TextAnswer;
+use lexer::Token;
+use lexer::is_valid;
+use lexer::next_token;
+use lexer::next_token_text;
+ghost use mathlib.Core.Path.{_≡_};
+ghost use mathlib.Core.Bool.{true};
+ghost use mathlib.Core.Option.{some};
+ghost use lib.ListN.{length};
+ghost use Rattle.lexer.specs.Cursor.{valid};
+ghost use Rattle.lexer.specs.Refusal.{fault};
+ghost use Rattle.reader.specs.Ops.{operators};
+ghost use Rattle.reader.specs.Roles.{rolesOf};
+ghost use Rattle.reader.specs.Machine as M;
+ghost use Rattle.reader.specs.Layout.{sightOf, stateOf, outOf};
+ghost use Rattle.reader.specs.Clause.{mostTokens, isEnd, clauseTokens, firstOffset, Outcome};
+ghost use Rattle.reader.specs.Gather.{tokenFrom, sightFrom, turnFrom, turnOf, clauseRun, resultOf, leaves, nodesOf, byNodes, byTokens, ReadFrom, NameFrom, QuotedFrom, Turning, Taking, Finished, Finishing};
+ghost use Rattle.reader.specs.declared.clause.ClauseAnswer.{ClauseAnswer};
+
+pub enum ClauseAnswer {
+    Read { nodes: usize, next: Cursor },
+    Refused { fault: Fault, cursor: Cursor },
+}
+
+// The roles of the quoted name behind the cursor: what does not fit in the scratch is no operator.
+fn quoted_roles(text: &[u8], c: Cursor) -> Roles
+    requires { ⌜ QuotedFrom (now text) c ⌝ }
+    ensures { λ r. ⌜ r ≡ rolesOf operators (tokenFrom (now (text .entry)) c .text) ⌝ }
+{
+    let mut scratch = [0u8; 3];
+    match next_token_text(text, c, &mut scratch) {
+        TextAnswer::Refused {
+            fault: _,
+            cursor: _,
+        } => NO_ROLES,
+        TextAnswer::Read {
+            token: _,
+            next: _,
+            part,
+        } => match part {
+            Part::Source { start: _, end: _ } => NO_ROLES,
+            Part::Scratch { start, end } => roles_of(&scratch, start, end),
+        },
+    }
+}
+
+// The roles of the name that was read at the cursor. It is quoted exactly if a single quote begins it.
+fn name_roles(text: &[u8], c: Cursor, token: Token, next: Cursor) -> Roles
+    requires { ⌜ NameFrom (now text) c token next ⌝ }
+    ensures { λ r. ⌜ r ≡ rolesOf operators (tokenFrom (now (text .entry)) c .text) ⌝ }
+{
+    let start = token.start;
+    if text[start] == b'\'' {
+        return quoted_roles(text, c);
+    }
+    roles_of(text, start, next.offset)
+}
+
+// What the machine sees of a name.
+fn see_name(text: &[u8], c: Cursor, token: Token, next: Cursor) -> Sight
+    requires { ⌜ NameFrom (now text) c token next ⌝ }
+    ensures { λ r. ⌜ sightOf r ≡ sightFrom (now (text .entry)) c ⌝ }
+{
+    let roles = name_roles(text, c, token, next);
+    let pre = roles.prefix;
+    let inf = roles.infix;
+    Sight::Name {
+        end: next.offset,
+        minus: roles.minus,
+        pre,
+        inf,
+    }
+}
+
+// What the machine sees of the token that was read at the cursor.
+fn see_token(text: &[u8], c: Cursor, token: Token, next: Cursor) -> Sight
+    requires { ⌜ ReadFrom (now text) c token next ⌝ }
+    ensures { λ r. ⌜ sightOf r ≡ sightFrom (now (text .entry)) c ⌝ }
+{
+    let kind = token.kind;
+    match kind {
+        Kind::Name => see_name(text, c, token, next),
+        Kind::Variable => Sight::VarOrString,
+        Kind::String => Sight::VarOrString,
+        Kind::Number => Sight::Number { start: token.start },
+        Kind::Open => Sight::Round(false),
+        Kind::OpenCT => Sight::Round(true),
+        Kind::Close => Sight::Stop(Stop::Close),
+        Kind::OpenList => Sight::Square,
+        Kind::CloseList => Sight::Stop(Stop::CloseList),
+        Kind::OpenCurly => Sight::Brace,
+        Kind::CloseCurly => Sight::Stop(Stop::CloseCurly),
+        Kind::HeadTailSeparator => Sight::Stop(Stop::Bar),
+        Kind::DoubleBar => Sight::Stop(Stop::DoubleBar),
+        Kind::Comma => Sight::Stop(Stop::Comma),
+        Kind::End => Sight::Stop(Stop::EndMark),
+    }
+}
+
+fn is_end(kind: Kind) -> bool
+    ensures { λ r. ⌜ r ≡ isEnd kind ⌝ }
+{
+    match kind {
+        Kind::Name => false,
+        Kind::Variable => false,
+        Kind::String => false,
+        Kind::Number => false,
+        Kind::Open => false,
+        Kind::OpenCT => false,
+        Kind::Close => false,
+        Kind::OpenList => false,
+        Kind::CloseList => false,
+        Kind::OpenCurly => false,
+        Kind::CloseCurly => false,
+        Kind::HeadTailSeparator => false,
+        Kind::DoubleBar => false,
+        Kind::Comma => false,
+        Kind::End => true,
+    }
+}
+
+// The index of the last token that a clause may have, its end mark.
+const LAST: u16 = 1023;
+
+// One token: the machine goes on, or stands behind the end mark.
+pub enum Turn {
+    More { mode: Mode, next: Cursor },
+    Last { mode: Mode, next: Cursor },
+    Stopped(Fault),
+    TooMany,
+}
+
+// The token of that index, at the cursor, is read and put to the machine.
+fn take_token(
+    text: &[u8],
+    c: Cursor,
+    index: u16,
+    mode: Mode,
+    frames: &mut [u64],
+    nodes: &mut [u32],
+) -> Turn
+    requires { ⌜ Turning (now text) c index mode (now frames) (now nodes) ⌝ }
+    ensures { λ r. ⌜ turnOf r (now (frames .exit)) (now (nodes .exit)) ≡ turnFrom (now (text .entry)) c index (stateOf mode (now (frames .entry)) (now (nodes .entry))) ⌝ }
+{
+    match next_token(text, c) {
+        Answer::Refused { fault, cursor: _ } => Turn::Stopped(fault),
+        Answer::Read { token, next } => {
+            let sight = see_token(text, c, token, next);
+            let kind = token.kind;
+            if is_end(kind) {
+                return Turn::Last {
+                    mode: step(mode, index, sight, frames, nodes),
+                    next,
+                };
+            }
+            if index == LAST {
+                return Turn::TooMany;
+            }
+            Turn::More {
+                mode: step(mode, index, sight, frames, nodes),
+                next,
+            }
+        }
+    }
+}
+
+// The machine behind the tokens of a clause.
+pub enum Machined {
+    Whole { mode: Mode, next: Cursor },
+    Stopped(Fault),
+    TooMany,
+}
+
+// The tokens up to an end mark are read and put to the machine, one after the other.
+fn take_tokens(text: &[u8], cursor: Cursor, frames: &mut [u64], nodes: &mut [u32]) -> Machined
+    requires { ⌜ Taking (now text) cursor (now frames) (now nodes) ⌝ }
+    ensures { λ r. ⌜ resultOf r (now (frames .exit)) (now (nodes .exit)) ≡ clauseRun mostTokens 0 M.start (now (text .entry)) cursor ⌝ }
+{
+    let mut mode = start(frames, nodes);
+    let mut c = cursor;
+    let mut index: u16 = 0;
+    loop {
+        match take_token(text, c, index, mode, frames, nodes) {
+            Turn::Stopped(fault) => return Machined::Stopped(fault),
+            Turn::TooMany => return Machined::TooMany,
+            Turn::Last { mode: last, next } => return Machined::Whole { mode: last, next },
+            Turn::More { mode: more, next } => {
+                mode = more;
+                c = next;
+                index += 1;
+            }
+        }
+    }
+}
+
+// The offset of the first token.
+fn first_offset(text: &[u8], cursor: Cursor) -> usize
+    requires { ⌜ valid (length (now text)) cursor ≡ true ⌝ }
+    ensures { λ r. ⌜ r ≡ firstOffset (now (text .entry)) cursor ⌝ }
+{
+    match next_token(text, cursor) {
+        Answer::Refused {
+            fault: _,
+            cursor: _,
+        } => 0,
+        Answer::Read { token, next: _ } => token.start,
+    }
+}
+
+// A refusal of the whole clause.
+fn clause_refused(text: &[u8], cursor: Cursor, refusal: Refusal) -> ClauseAnswer
+    requires { ⌜ valid (length (now text)) cursor ≡ true ⌝ }
+    ensures { λ r. ⌜ r ≡ ClauseAnswer.Refused (fault refusal (firstOffset (now (text .entry)) cursor)) cursor ⌝ }
+{
+    ClauseAnswer::Refused {
+        fault: Fault {
+            refusal,
+            offset: first_offset(text, cursor),
+        },
+        cursor,
+    }
+}
+
+// The machine stands behind the end mark, with so many nodes out.
+fn write_clause(
+    text: &[u8],
+    cursor: Cursor,
+    count: usize,
+    next: Cursor,
+    nodes: &[u32],
+    tree: &mut [u16],
+) -> ClauseAnswer
+    requires { ⌜ Finished (now text) cursor count (now nodes) ⌝ }
+    ensures { λ r. ⌜ leaves r (now (tree .exit)) ≡ byNodes (now (text .entry)) cursor (now (tree .entry)) next (some (outOf (now (nodes .entry)) count)) ⌝ }
+{
+    if tree.len() < 2 * count {
+        return clause_refused(text, cursor, Refusal::NoRoom);
+    }
+    put_tree(count, nodes, tree);
+    ClauseAnswer::Read { nodes: count, next }
+}
+
+// What the machine behind the end mark says.
+fn finish_clause(
+    text: &[u8],
+    cursor: Cursor,
+    mode: Mode,
+    next: Cursor,
+    frames: &[u64],
+    nodes: &[u32],
+    tree: &mut [u16],
+) -> ClauseAnswer
+    requires { ⌜ Finishing (now text) cursor mode (now frames) (now nodes) ⌝ }
+    ensures { λ r. ⌜ leaves r (now (tree .exit)) ≡ byNodes (now (text .entry)) cursor (now (tree .entry)) next (nodesOf (stateOf mode (now (frames .entry)) (now (nodes .entry)))) ⌝ }
+{
+    match mode {
+        Mode::Done(count) => write_clause(text, cursor, count, next, nodes, tree),
+        Mode::Want(_) => clause_refused(text, cursor, Refusal::NoReading),
+        Mode::Pend(_, _) => clause_refused(text, cursor, Refusal::NoReading),
+        Mode::Begun(_, _, _) => clause_refused(text, cursor, Refusal::NoReading),
+        Mode::Have(_) => clause_refused(text, cursor, Refusal::NoReading),
+        Mode::Dead => clause_refused(text, cursor, Refusal::NoReading),
+    }
+}
+
+// The clause at a valid cursor.
+fn clause_at(text: &[u8], cursor: Cursor, tree: &mut [u16]) -> ClauseAnswer
+    requires { ⌜ valid (length (now text)) cursor ≡ true ⌝ }
+    ensures { λ r. ⌜ leaves r (now (tree .exit)) ≡ byTokens (now (text .entry)) cursor (now (tree .entry)) (clauseTokens (now (text .entry)) cursor) ⌝ }
+{
+    let mut frames = [0u64; 1024];
+    let mut nodes = [0u32; 1024];
+    match take_tokens(text, cursor, &mut frames, &mut nodes) {
+        Machined::Stopped(fault) => ClauseAnswer::Refused { fault, cursor },
+        Machined::TooMany => clause_refused(text, cursor, Refusal::TooManyTokens),
+        Machined::Whole { mode, next } => {
+            finish_clause(text, cursor, mode, next, &frames, &nodes, tree)
+        }
+    }
+}
+
+// The clause call.
+pub fn read_clause(text: &[u8], cursor: Cursor, tree: &mut [u16]) -> ClauseAnswer
+    ensures { λ r. ⌜ Outcome (now (text .entry)) cursor (now (tree .entry)) r (now (tree .exit)) ⌝ }
+{
+    if is_valid(text.len(), cursor) {
+        return clause_at(text, cursor, tree);
+    }
+    ClauseAnswer::Refused {
+        fault: Fault {
+            refusal: Refusal::NotValid,
+            offset: 0,
+        },
+        cursor,
+    }
+}
