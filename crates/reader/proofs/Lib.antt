@@ -17,3 +17,11 @@ pub mod Views
 pub mod Sights
 pub mod Turns
 pub mod Runs
+pub mod Chains
+pub mod Commas
+pub mod Indexes
+pub mod LineSpecimens
+pub mod Lines
+pub mod Puts
+pub mod Terms
+pub mod Walks

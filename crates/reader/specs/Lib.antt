@@ -10,3 +10,4 @@ pub mod Layout
 pub mod Names
 pub mod Roles
 pub mod Gather
+pub mod Listing

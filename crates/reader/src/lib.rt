@@ -1,5 +1,7 @@
 // The clause reader: tokens to an end mark, read by the grammar of document 01. It stands above the tokenizer and relies on its promises alone.
 mod clause;
+mod kinds;
+mod listing;
 mod machine;
 mod operators;
 mod ops;
