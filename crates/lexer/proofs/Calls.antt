@@ -6,7 +6,7 @@ use Prim.Native.Nat.{ℕ, _<_, _≤_}
 use native.Mathlib.Omega.{arith}
 use borrow.Author.Tests.{le-leb}
 use lib.ListN.{length}
-use Rattle.lexer.specs.Cursor.{longest, moveTo, valid, Valid}
+use Rattle.lexer.specs.Cursor.{longest, startCursor, moveTo, valid, Valid}
 use Rattle.lexer.specs.Token.{Lexeme, lexeme, refused, readLexeme, answered, notValid, call}
 use Rattle.lexer.specs.declared.refusal.Fault.{Fault}
 use Rattle.lexer.specs.declared.cursor.Cursor.{Cursor}
@@ -30,6 +30,9 @@ passes : (n : ℕ) (c : Cursor) → Valid n c → valid n c ≡ true
 unfolding valid
 passes n c v =
     cc (le-leb n longest (v .short), le-leb (c .offset) n (v .offset), le-leb (c .line) (c .offset) (v .line), le-leb (c .column) (c .offset) (v .column))
+
+pub start-passes : (n : ℕ) → n ≤ longest → valid n startCursor ≡ true
+start-passes n h = passes n startCursor (record { short = h; offset = omega arith; line = omega arith; column = omega arith })
 
 module _ (field : Bool) (s : List ℕ) (c : Cursor) where
   answer : Bool → Lexeme → Answer

@@ -5,12 +5,12 @@ use mathlib.Core.List.{List, [], _∷_}
 use Prim.Native.Nat.{ℕ, zero, suc, _+_, _-_, _<_, _≤_}
 use native.Mathlib.Nat.{add-zero}
 use native.Mathlib.Omega.{arith}
-use borrow.Author.Tests.{eq-eqb, ne-eqb}
+use borrow.Author.Tests.{eq-eqb, ne-eqb, eqb-false}
 use lib.Dec.{eqb}
 use lib.ListN.{length, drop, length-drop}
 use Rattle.lexer.specs.Chars.{is, layoutChar, newline, percent, star, slash}
 use Rattle.lexer.specs.Cursor.{moveTo, Valid}
-use Rattle.lexer.specs.Items.{Turn, stop, on, same, after, items}
+use Rattle.lexer.specs.Items.{stop, on, same}
 use Rattle.lexer.specs.Layout.{singleLineComment, unclosed, commentText, commentOpened, bracketedComment, slashed, layoutTextOf, layoutText, layoutTurn, layoutTexts, ended, layoutEnd, moved}
 use Rattle.lexer.specs.Look.{front, needed, lookahead}
 use Rattle.lexer.specs.Refusal.{fault}
@@ -21,7 +21,7 @@ use Rattle.lexer.specs.declared.cursor.Moved.{Moved}
 use Rattle.lexer.specs.declared.cursor.Scan.{Scan}
 use Rattle.lexer.specs.declared.cursor.Scan.the-variants.{Stop, Refused}
 use Rattle.lexer.proofs.Cursors.{move-here, move-offset, move-valid}
-use Rattle.lexer.proofs.Items.{items-stop, items-on}
+use Rattle.lexer.proofs.Items.{Carries, items-stop, items-on, items-hold}
 use Rattle.lexer.proofs.Looks.{look-byte}
 use Rattle.lexer.proofs.Scans.{Between, choice, wider, past-ends, moved-by}
 use Rattle.lexer.proofs.Steps.{drop-end}
@@ -91,32 +91,34 @@ abbrev pub Before : ℕ → ℕ → Scan → Type 0
 Before lo hi (Stop e) = (lo ≤ e) × (e < hi)
 Before lo hi (Refused w) = Unit {0}
 
-further : (lo hi lo′ hi′ : ℕ) (r : Scan) → lo′ ≤ lo → hi ≤ hi′ → Before lo hi r → Before lo′ hi′ r
-further lo hi lo′ hi′ (Stop e) p q h = omega arith
-further lo hi lo′ hi′ (Refused w) p q h = tt
+further : (hi lo lo′ : ℕ) (r : Scan) → lo′ ≤ lo → Before lo hi r → Before lo′ hi r
+further hi lo lo′ (Stop e) p h = omega arith
+further hi lo lo′ (Refused w) p h = tt
 
-after-turn : (lo hi at : ℕ) (r : Scan) (next : ℕ → Scan) → lo ≤ at → at < hi → ((e : ℕ) → Before lo hi (next e)) → Before lo hi (after (layoutTurn at r) next)
-unfolding after layoutTurn
-after-turn lo hi at (Refused w) next h k f = tt
-after-turn lo hi at (Stop e) next h k f = go (eqb e at)
-  where
-    go : (t : Bool) → Before lo hi (after (cond t (stop (Stop at)) (on e same)) next)
-    go true = (h, k)
-    go false = f e
+-- an empty layout text stands before a character
+module _ (s : List ℕ) where
+  before-char : (at : ℕ) (r : Look) → lookahead s at ≡ r → (e : ℕ) → layoutTextOf s at r ≡ Stop e → at < length s
+  unfolding layoutTextOf
+  before-char at (Look.Refused w) f e g = let z : _≡_ {A = ℕ} 0 1 = cc in absurd (omega arith)
+  before-char at (Look.Byte x) f e g = look-byte s at x f .inside
 
-sequence-ends : (s : List ℕ) (k at : ℕ) (xs : List ℕ) → Before at (at + length xs) (items (layoutTexts s) ended k at xs)
-unfolding items
-sequence-ends s k at [] = tt
-sequence-ends s (suc k) at (x ∷ xs) =
-    further (at + 1) (at + 1 + length xs) _ _ (items (layoutTexts s) ended k (at + 1) xs) (omega arith) (omega arith) (sequence-ends s k (at + 1) xs)
-sequence-ends s zero at (x ∷ xs) =
-    after-turn _ _ at (layoutText s at) _ (omega arith) (omega arith)
-    (λ e. further (at + 1) (at + 1 + length xs) _ _ (items (layoutTexts s) ended (e - (at + 1)) (at + 1) xs) (omega arith) (omega arith) (sequence-ends s (e - (at + 1)) (at + 1) xs))
+  carries : (at : ℕ) (r : Scan) → layoutText s at ≡ r → Carries (λ (at : ℕ) (r : Scan). Before at (length s) r) (length s) at (layoutTurn at r)
+  unfolding layoutTurn
+  carries at (Refused w) f = tt
+  carries at (Stop e) f = go (eqb e at) refl
+    where
+      go : (t : Bool) → eqb e at ≡ t → Carries (λ (at : ℕ) (r : Scan). Before at (length s) r) (length s) at (cond t (stop (Stop at)) (on e same))
+      go true g = (omega arith, before-char at (lookahead s at) refl e f)
+      go false g =
+          let b : (at ≤ e) × (e ≤ length s) = rw f at (layout-text-ends s at) in
+          record {
+            ahead = (let n = eqb-false e at g in omega (arith, n, b .0));
+            inside = b .1;
+            rest = λ r h. further (length s) e at r (b .0) h;
+          }
 
-pub layout-ends : (s : List ℕ) (at : ℕ) → at ≤ length s → Before at (length s) (layoutEnd s at)
-layout-ends s at h =
-    let m : at + (length s - at) ≡ length s = omega arith in
-    rw m at (rw length-drop at (sequence-ends s 0 at (drop at s)))
+  pub layout-ends : (at : ℕ) → Before at (length s) (layoutEnd s at)
+  layout-ends at = items-hold (layoutTexts s) ended s (λ (at : ℕ) (r : Scan). Before at (length s) r) (nothing-left s) (λ at. carries at (layoutText s at) refl) at
 
 pub before-between : (lo hi : ℕ) (r : Scan) → Before lo hi r → Between lo hi r
 before-between lo hi (Stop e) h = omega arith
@@ -171,7 +173,7 @@ module _ (s : List ℕ) (c : Cursor) (v : Valid (length s) c) where
     layout-more n =
         let t = told in
         let k = goes-on s (c .offset) (t .end) (t .text) (λ h. n (t .offset ∙ h)) in
-        let b = before-between (t .end) (length s) (layoutEnd s (t .end)) (layout-ends s (t .end) (t .to)) in
+        let b = before-between (t .end) (length s) (layoutEnd s (t .end)) (layout-ends s (t .end)) in
         ap (moved s c) k ∙ moved-by s c (t .end) (layoutEnd s (t .end)) (t .from) b
         ∙ ap (λ (x : Cursor). moved s x (layoutEnd s (t .end))) (sym (t .there)) ∙ ap (λ (x : ℕ). moved s d (layoutEnd s x)) (sym (t .offset))
 

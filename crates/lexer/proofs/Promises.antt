@@ -250,4 +250,4 @@ of-layout field s from (Stop at) b = of-look s from at (b .0) field (ltb from at
 
 -- an accepted token starts at or after the cursor, ends after it starts, within the text
 pub lexeme-ends : (field : Bool) (s : List ℕ) (from : ℕ) (t : Token) (e : ℕ) (x : Text) → from ≤ length s → readLexeme field s from ≡ lexeme t e x → LexemeEnds s from t e
-lexeme-ends field s from t e x h f = rw f at (of-layout field s from (layoutEnd s from) (layout-ends s from h))
+lexeme-ends field s from t e x h f = rw f at (of-layout field s from (layoutEnd s from) (layout-ends s from))

@@ -7,6 +7,7 @@ use Prim.Native.Nat.{ℕ, _+_, _-_, _<_, _≤_}
 use lib.Ieee.{Float}
 use lib.ListN.{length, getD}
 use Rattle.lexer.specs.Chars.{is, foreignByte}
+use Rattle.lexer.specs.Cursor.{longest, startCursor, valid}
 use Rattle.lexer.specs.Float.{Limits, Scale, scale, over, under, floatValue}
 use Rattle.lexer.specs.Layout.{commentText}
 use Rattle.lexer.specs.Nearest.{Nearest}
@@ -23,7 +24,7 @@ use Rattle.lexer.specs.declared.text.Part.{Part}
 use Rattle.lexer.specs.declared.text.TextAnswer.{TextAnswer}
 use Rattle.lexer.specs.declared.token.Token.{Token}
 use Rattle.lexer.specs.declared.token.Answer.{Answer}
-use Rattle.lexer.proofs.Calls.{Promised, read-promises, refused-here}
+use Rattle.lexer.proofs.Calls.{start-passes, Promised, read-promises, refused-here}
 use Rattle.lexer.proofs.FirstMark.{Clear, First, first-mark, mark-first, clear-end, clear-foreign}
 use Rattle.lexer.proofs.Refusals.{all, numbers, number-once}
 use Rattle.lexer.proofs.Specimens.{table, specimens}
@@ -55,6 +56,14 @@ show-coincides s d p = coincide (shown s d p)
 -- a refusal's number
 pub refusal-coincides : (r : Refusal) (a b : ℕ) → a ≡ numberOf r → b ≡ numberOf r → a ≡ b
 refusal-coincides r = coincide (numberOf r)
+
+-- the test of a cursor
+pub valid-coincides : (n : ℕ) (c : Cursor) (a b : Bool) → a ≡ valid n c → b ≡ valid n c → a ≡ b
+valid-coincides n c = coincide (valid n c)
+
+-- the start is a valid cursor of every text that is not too long
+pub start-valid : (n : ℕ) → n ≤ longest → valid n startCursor ≡ true
+start-valid = start-passes
 
 -- ---- what the clause reader relies on
 module _ (s : List ℕ) (c : Cursor) where

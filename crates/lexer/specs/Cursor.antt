@@ -12,6 +12,10 @@ use Rattle.lexer.specs.declared.cursor.Cursor.{Cursor}
 abbrev pub longest : ℕ
 longest = 65535
 
+-- 01: "Start is 0, 0, 0"
+abbrev pub startCursor : Cursor
+startCursor = record { offset = 0; line = 0; column = 0 }
+
 -- 01: a newline adds a line and sets the column to 0; another character adds a column
 abbrev pub step : Cursor → ℕ → Cursor
 step c x =

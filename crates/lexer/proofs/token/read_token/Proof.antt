@@ -44,7 +44,7 @@ module _ (s : List ℕ) (c : Cursor) (v : Valid (length s) c) (l : Moved) (e : l
   module _ (d : Cursor) (f : l ≡ Moved.To d) where
     told : Layout s c d
     unfolding moved
-    told = go (layoutEnd s (c .offset)) refl (layout-ends s (c .offset) (v .offset)) e
+    told = go (layoutEnd s (c .offset)) refl (layout-ends s (c .offset)) e
       where
         go : (r : Scan) → layoutEnd s (c .offset) ≡ r → Before (c .offset) (length s) r → l ≡ moved s c r → Layout s c d
         go (Scan.Refused x) q b g = let z : _≡_ {A = ℕ} 0 1 = cc in absurd (omega arith)
