@@ -25,3 +25,5 @@ pub mod Lines
 pub mod Puts
 pub mod Terms
 pub mod Walks
+pub mod Spans
+pub mod LineOutcomes

@@ -33,7 +33,7 @@ use Rattle.reader.proofs.Size.{step-size, count-low, numbered}
 -- ---- what the token call tells
 
 module _ (s : List ℕ) (c : Cursor) (v : valid (length s) c ≡ true) where
-  answered-there : nextToken s c ≡ answered s c (readLexeme false s (c .offset))
+  pub answered-there : nextToken s c ≡ answered s c (readLexeme false s (c .offset))
   answered-there = rw v
 
   pub told-refused : (w : Fault) (k : Cursor) → nextToken s c ≡ Answer.Refused w k → readLexeme false s (c .offset) ≡ refused w

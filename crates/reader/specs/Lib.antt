@@ -11,3 +11,4 @@ pub mod Names
 pub mod Roles
 pub mod Gather
 pub mod Listing
+pub mod LineCall

@@ -113,7 +113,7 @@ fn see_token(text: &[u8], c: Cursor, token: Token, next: Cursor) -> Sight
     }
 }
 
-fn is_end(kind: Kind) -> bool
+pub(crate) fn is_end(kind: Kind) -> bool
     ensures { λ r. ⌜ r ≡ isEnd kind ⌝ }
 {
     match kind {
@@ -210,7 +210,7 @@ fn take_tokens(text: &[u8], cursor: Cursor, frames: &mut [u64], nodes: &mut [u32
 }
 
 // The offset of the first token.
-fn first_offset(text: &[u8], cursor: Cursor) -> usize
+pub(crate) fn first_offset(text: &[u8], cursor: Cursor) -> usize
     requires { ⌜ valid (length (now text)) cursor ≡ true ⌝ }
     ensures { λ r. ⌜ r ≡ firstOffset (now (text .entry)) cursor ⌝ }
 {
