@@ -3,6 +3,7 @@ use crate::output::put;
 use crate::output::put_bits;
 use crate::output::put_bytes;
 use crate::output::put_number;
+use crate::output::put_numbers;
 use crate::output::put_pairs;
 use lexer::Answer;
 use lexer::Cursor;
@@ -11,12 +12,16 @@ use lexer::Kind;
 use lexer::TextAnswer;
 use lexer::Token;
 use lexer::Value;
+use reader::ClauseAnswer;
 ghost use Prim.Native.Nat.{_≤_};
 ghost use Rattle.probe.specs.Room.{largestRoom};
+ghost use Rattle.probe.specs.Nearer.{Nearer};
 
 pub const LARGEST_ROOM: usize = 4096;
 // What the lent scratch holds before the call.
 const FILL: u8 = 165;
+// What the lent tree holds before the call.
+const TREE_FILL: u16 = 43690;
 
 fn put_kind(out: &mut [u8], filled: usize, kind: Kind) -> usize {
     match kind {
@@ -158,7 +163,91 @@ fn text_case(out: &mut [u8], filled: usize, text: &[u8], cursor: Cursor, room: u
     text_lines(out, filled, text, cursor, &mut scratch[0..room])
 }
 
-// The answers to one case. The clause call is not there yet: its letters, `c` and `C`, are answered by nothing.
+fn clause_line(out: &mut [u8], filled: usize, nodes: usize, next: Cursor) -> usize {
+    let named = put_bytes(out, filled, b"clause");
+    let with_nodes = put_number(out, named, nodes as u64);
+    let with_cursor = put_cursor(out, with_nodes, next);
+    put(out, with_cursor, b'\n')
+}
+
+fn tree_line(out: &mut [u8], filled: usize, tree: &[u16]) -> usize {
+    let named = put_bytes(out, filled, b"tree");
+    let with_numbers = put_numbers(out, named, tree);
+    put(out, with_numbers, b'\n')
+}
+
+// The answer of the clause call, and the tree that it left.
+fn clause_lines(out: &mut [u8], filled: usize, answer: ClauseAnswer, tree: &[u16]) -> usize {
+    match answer {
+        ClauseAnswer::Read { nodes, next } => {
+            let line = clause_line(out, filled, nodes, next);
+            tree_line(out, line, tree)
+        }
+        ClauseAnswer::Refused { fault, cursor } => {
+            let line = refused_line(out, filled, fault, cursor);
+            tree_line(out, line, tree)
+        }
+    }
+}
+
+// What one clause call answered, and how far the output buffer is filled.
+pub struct ClauseCase {
+    pub answer: ClauseAnswer,
+    pub filled: usize,
+}
+
+// The clause call, with this tree.
+fn clause_call(
+    out: &mut [u8],
+    filled: usize,
+    text: &[u8],
+    cursor: Cursor,
+    tree: &mut [u16],
+) -> ClauseCase
+    ensures { λ r. ⌜ Nearer (now (text .entry)) cursor (r .answer) ⌝ }
+{
+    let answer = reader::read_clause(text, cursor, tree);
+    ClauseCase {
+        answer,
+        filled: clause_lines(out, filled, answer, tree),
+    }
+}
+
+fn clause_case(
+    out: &mut [u8],
+    filled: usize,
+    text: &[u8],
+    cursor: Cursor,
+    room: usize,
+) -> ClauseCase
+    requires { ⌜ room ≤ largestRoom ⌝ }
+    ensures { λ r. ⌜ Nearer (now (text .entry)) cursor (r .answer) ⌝ }
+{
+    let mut tree = [TREE_FILL; LARGEST_ROOM];
+    clause_call(out, filled, text, cursor, &mut tree[0..room])
+}
+
+// Clause calls, each from the cursor that the last one gave, until one is refused. Each cursor stands behind the one before, so a refusal comes.
+fn clause_cases(out: &mut [u8], filled: usize, text: &[u8], cursor: Cursor, room: usize) -> usize
+    requires { ⌜ room ≤ largestRoom ⌝ }
+{
+    let mut at = cursor;
+    let mut now_filled = filled;
+    loop {
+        let case = clause_case(out, now_filled, text, at, room);
+        now_filled = case.filled;
+        let answer = case.answer;
+        match answer {
+            ClauseAnswer::Read { nodes: _, next } => at = next,
+            ClauseAnswer::Refused {
+                fault: _,
+                cursor: _,
+            } => return now_filled,
+        }
+    }
+}
+
+// The answers to one case.
 pub(crate) fn answer(
     out: &mut [u8],
     filled: usize,
@@ -174,6 +263,8 @@ pub(crate) fn answer(
         b'T' => token_lines(out, filled, text, cursor),
         b'n' => answer_line(out, filled, lexer::next_number_token(text, cursor)),
         b'x' => text_case(out, filled, text, cursor, room),
+        b'c' => clause_case(out, filled, text, cursor, room).filled,
+        b'C' => clause_cases(out, filled, text, cursor, room),
         _ => filled,
     }
 }

@@ -80,3 +80,21 @@ pub(crate) fn put_pairs(out: &mut [u8], filled: usize, bytes: &[u8]) -> usize {
     }
     now_filled
 }
+
+fn put_short(out: &mut [u8], filled: usize, n: u16) -> usize {
+    put_number(out, filled, n as u64)
+}
+
+// The numbers in decimal with a space before each, or ` -` where there are none.
+pub(crate) fn put_numbers(out: &mut [u8], filled: usize, numbers: &[u16]) -> usize {
+    if numbers.len() == 0 {
+        return put_bytes(out, filled, b" -");
+    }
+    let mut now_filled = filled;
+    let mut i: usize = 0;
+    while i < numbers.len() {
+        now_filled = put_short(out, now_filled, numbers[i]);
+        i += 1;
+    }
+    now_filled
+}

@@ -114,7 +114,7 @@ module _ (s : List ℕ) (c₀ c : Cursor) (i : ℕ) (starts ends : List ℕ) (v 
             unfolding it
             ended z =
                 let g : gather mostTokens s c₀ ≡ whole (v .left ++ (it ∷ [])) d =
-                    from-here ∙ ap (withAll (v .left)) (gather-end s c t d (known s c t d (sym e ∙ f)) (1023 - i) (sym m ∙ z)) ∙ with-whole (v .left) (it ∷ []) d in
+                from-here ∙ ap (withAll (v .left)) (gather-end s c t d (known s c t d (sym e ∙ f)) (1023 - i) (sym m ∙ z)) ∙ with-whole (v .left) (it ∷ []) d in
                 record { fronts = λ ts k w. let l : v .left ++ (it ∷ []) ≡ ts = cc in rw l at fronts-on }
 
             again : b ≡ false → Inv s c₀ d (i + 1) (set starts i x) (set ends i y)
