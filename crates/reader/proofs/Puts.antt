@@ -4,8 +4,8 @@ use mathlib.Core.Path.{_≡_, refl, ap, subst, _∙_}
 use mathlib.Core.List.{List, [], _∷_, _++_}
 use native.Mathlib.Nat.{add-zero}
 use native.Mathlib.Omega.{arith}
-use lib.ListN.{length, getD, set, drop, length-append, length-drop}
-use lib.Seq.{sets, set-comm, length-take-le}
+use lib.ListN.{length, getD, set, take, drop, length-append, length-drop}
+use lib.Seq.{sets, sets-eq, set-comm, take-append-seam, length-take-le}
 use borrow.Author.Tests.{eqb-true, eqb-false, eq-eqb, ne-eqb}
 use Rattle.lexer.specs.Chars.{comma, openParen, openBracket, openBrace}
 use Rattle.lexer.specs.Cursor.{part, longest}
@@ -28,6 +28,10 @@ sets-sets (c ∷ cs) bs d i =
     let e : i + suc (length cs) ≡ suc i + length cs = omega arith in
     ap (λ (d′ : List ℕ). sets d′ (suc i) cs) (set-sets bs d i (i + suc (length cs)) c (omega arith) ∙ ap (λ (k : ℕ). sets (set d i c) k bs) e)
     ∙ sets-sets cs bs (set d i c) (suc i)
+
+-- what was stored in front stands there
+pub sets-front : (d bs : List ℕ) → length bs ≤ length d → take (length bs) (sets d 0 bs) ≡ bs
+sets-front d bs h = rw (sets-eq bs d 0 (omega arith)) (take-append-seam bs (drop (0 + length bs) d))
 
 -- what an equation of `put` says
 pub record Told (bs : List ℕ) (at : ℕ) (d : List ℕ) (r : ℕ) (d′ : List ℕ) : Type 0 where

@@ -71,9 +71,11 @@ unfolding gather onward
 gather-stopped s c n e = ap (λ (x : Lexeme). onward s c x (λ e. gather n s e)) e
 
 -- ---- the tokens that were gathered
-pub record Few (s : List ℕ) (c : Cursor) (n : ℕ) (ts : List Token) : Type 0 where
+pub record Few (s : List ℕ) (c : Cursor) (n : ℕ) (ts : List Token) (e : Cursor) : Type 0 where
   pub few : length ts ≤ n
   pub chain : Chain (length s) (c .offset) ts
+  pub further : c .offset < e .offset
+  pub next-passes : valid (length s) e ≡ true
 
 -- taken apart
 record Tail (t : Token) (ts : List Token) (e : Cursor) (g : Gathered) : Type 0 where
@@ -88,29 +90,38 @@ tail t ts e (stopped w) h = let z : _≡_ {A = ℕ} 0 1 = cc in absurd (omega ar
 tail t ts e tooMany h = let z : _≡_ {A = ℕ} 0 1 = cc in absurd (omega arith)
 
 module _ (s : List ℕ) (c : Cursor) (v : valid (length s) c ≡ true) (n : ℕ) (ts : List Token) (e : Cursor)
-    (next : (d : Cursor) → valid (length s) d ≡ true → (us : List Token) → gather n s d ≡ whole us e → Few s d n us) where
-  one-read : (t : lexer.Token) (d : Cursor) → nextToken s c ≡ Answer.Read t d → gather (suc n) s c ≡ whole ts e → Few s c (suc n) ts
+    (next : (d : Cursor) → valid (length s) d ≡ true → (us : List Token) → gather n s d ≡ whole us e → Few s d n us e) where
+  one-read : (t : lexer.Token) (d : Cursor) → nextToken s c ≡ Answer.Read t d → gather (suc n) s c ≡ whole ts e → Few s c (suc n) ts e
   one-read t d r g = go (isEnd (t .kind)) refl
     where
-      go : (b : Bool) → isEnd (t .kind) ≡ b → Few s c (suc n) ts
+      go : (b : Bool) → isEnd (t .kind) ≡ b → Few s c (suc n) ts e
       go true b =
           let k = known s c t d r in
           let p = read-promises false s c t d r in
           let m : tokenIn s t (d .offset) (k .text) ∷ [] ≡ ts = cc (gather-end s c t d k n b) in
-          subst (Few s c (suc n)) m (record { few = omega arith; chain = more (p .behind) (p .ahead) (none (p .inside)) })
+          let z : d ≡ e = cc (gather-end s c t d k n b) in
+          subst (λ (us : List Token). Few s c (suc n) us e) m
+          (subst (Few s c (suc n) (tokenIn s t (d .offset) (k .text) ∷ [])) z
+          (record { few = omega arith; chain = more (p .behind) (p .ahead) (none (p .inside)); further = p .further; next-passes = p .next-passes }))
       go false b =
           let k = known s c t d r in
           let p = read-promises false s c t d r in
           let a = tail (tokenIn s t (d .offset) (k .text)) ts e (gather n s d) (sym (gather-on s c t d k n b) ∙ g) in
           let f = next d (p .next-passes) (a .rest) (a .left) in
-          subst (Few s c (suc n)) (sym (a .same)) (record { few = omega (arith, f .few); chain = more (p .behind) (p .ahead) (f .chain) })
+          subst (λ (us : List Token). Few s c (suc n) us e) (sym (a .same))
+          (record {
+            few = omega (arith, f .few);
+            chain = more (p .behind) (p .ahead) (f .chain);
+            further = omega (arith, p .further, f .further);
+            next-passes = f .next-passes;
+          })
 
-  one-lexeme : (x : Lexeme) → readLexeme false s (c .offset) ≡ x → gather (suc n) s c ≡ whole ts e → Few s c (suc n) ts
+  one-lexeme : (x : Lexeme) → readLexeme false s (c .offset) ≡ x → gather (suc n) s c ≡ whole ts e → Few s c (suc n) ts e
   unfolding answered
   one-lexeme (refused w) q g = let f = gather-stopped s c n q in let z : _≡_ {A = ℕ} 0 1 = cc in absurd (omega arith)
   one-lexeme (lexeme t k x) q g = one-read t (moveTo s c k) (answered-there s c v ∙ ap (answered s c) q) g
 
-pub gathered-few : (n : ℕ) (s : List ℕ) (c : Cursor) (ts : List Token) (e : Cursor) → valid (length s) c ≡ true → gather n s c ≡ whole ts e → Few s c n ts
+pub gathered-few : (n : ℕ) (s : List ℕ) (c : Cursor) (ts : List Token) (e : Cursor) → valid (length s) c ≡ true → gather n s c ≡ whole ts e → Few s c n ts e
 unfolding gather
 gathered-few zero s c ts e v g = let z : _≡_ {A = ℕ} 0 1 = cc in absurd (omega arith)
 gathered-few (suc n) s c ts e v g = one-lexeme s c v n ts e (λ d w us h. gathered-few n s d us e w h) (readLexeme false s (c .offset)) refl g

@@ -1,4 +1,4 @@
--- What is proved of the grammar, the machine, for every admitted table, and of the clause call. Statements only: each cites its proof. Assumes nothing.
+-- What is proved of the grammar, the machine, for every admitted table, of the clause call and of its line. Statements only: each cites its proof. Assumes nothing.
 use Prim.Native.Nat.{ℕ, _+_, _*_, _≤_, _<_}
 use mathlib.Core.Path.{_≡_}
 use mathlib.Core.Bool.{true}
@@ -14,7 +14,10 @@ use Rattle.reader.specs.Tree.{Tree, packed, numbers}
 use Rattle.reader.specs.Grammar.{Clause}
 use Rattle.reader.specs.Machine.{Out, done, run, start, answer, Numbered}
 use Rattle.reader.specs.Clause.{Outcome}
+use Rattle.reader.specs.LineCall.{LineOutcome}
 use Rattle.reader.specs.declared.clause.ClauseAnswer.{ClauseAnswer}
+use Rattle.reader.specs.declared.line_call.LineAnswer.{LineAnswer}
+use Rattle.reader.proofs.LineOutcomes.{some-line, one-line}
 use Rattle.reader.proofs.Outcomes.{some-outcome, one-outcome}
 use Rattle.reader.proofs.Table.{same-exactly, fair, operators-admitted}
 use Rattle.reader.proofs.Answer.{answer-complete, answer-sound, one-tree, reads?, tree-small}
@@ -73,3 +76,10 @@ module _ (s : List ℕ) (c : Cursor) (d : List ℕ) where
 
   pub clause-coincides : {r r′ : ClauseAnswer} {x x′ : List ℕ} → Outcome s c d r x → Outcome s c d r′ x′ → (r ≡ r′) × (x ≡ x′)
   clause-coincides = one-outcome s c d
+
+  -- The line of a clause: the same of the call that lists it.
+  pub a-line : (r : LineAnswer) × (x : List ℕ) × LineOutcome s c d r x
+  a-line = some-line s c d
+
+  pub line-coincides : {r r′ : LineAnswer} {x x′ : List ℕ} → LineOutcome s c d r x → LineOutcome s c d r′ x′ → (r ≡ r′) × (x ≡ x′)
+  line-coincides = one-line s c d

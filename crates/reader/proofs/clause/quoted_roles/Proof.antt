@@ -8,7 +8,7 @@ use borrow.Author.Needs.{needs}
 use borrow.Author.Tests.{leb-true, leb-false}
 use lib.Dec.{leb}
 use lib.ListN.{length, take, drop}
-use lib.Seq.{sets, length-sets, sets-eq, take-append-seam}
+use lib.Seq.{sets, length-sets}
 use Rattle.lexer.specs.Cursor.{moveTo}
 use Rattle.lexer.specs.Refusal.{fault}
 use Rattle.lexer.specs.Text.{Outcome, leaves, textTold, nextTokenText}
@@ -26,6 +26,7 @@ use Rattle.reader.specs.Clause.{textIn}
 use Rattle.reader.specs.Gather.{tokenOf, tokenFrom, QuotedFrom}
 use Rattle.reader.specs.declared.roles.Roles.{Roles}
 use Rattle.reader.proofs.Finding.{noRoles, long-name}
+use Rattle.reader.proofs.Puts.{sets-front}
 use Rattle.reader.proofs.clause.quoted_roles.Statement.{statement}
 use Rattle.reader.proofs.clause.quoted_roles.Tie as tie
 
@@ -35,9 +36,6 @@ record Written (d bs d′ : List ℕ) (a e : ℕ) : Type 0 where
   left : d′ ≡ sets d 0 bs
   from : a ≡ 0
   to : e ≡ length bs
-
-front : (d bs : List ℕ) → length bs ≤ length d → take (length bs) (sets d 0 bs) ≡ bs
-front d bs h = rw (sets-eq bs d 0 (omega arith)) (take-append-seam bs (drop (0 + length bs) d))
 
 module _ (s : List ℕ) (c : Cursor) (q : QuotedFrom s c) where
   its-text : tokenFrom s c .text ≡ q .bytes
@@ -86,7 +84,7 @@ module _ (s : List ℕ) (c : Cursor) (q : QuotedFrom s c) where
         found x g =
             let w = written in
             let n : e - a ≡ length (q .bytes) = omega (arith, w .from, w .to) in
-            cc (w .from, w .left, n, front d (q .bytes) (w .fits), its-text)
+            cc (w .from, w .left, n, sets-front d (q .bytes) (w .fits), its-text)
 
 ruleset ways = (refuse, source, there, found, needs)
 

@@ -4,8 +4,8 @@ use mathlib.Core.Path.{_≡_, refl, sym, _∙_, ap, subst}
 use mathlib.Core.List.{List}
 use native.Mathlib.Omega.{arith}
 use borrow.Author.Needs.{needs}
-use lib.ListN.{length, take, drop}
-use lib.Seq.{sets, length-sets, sets-eq, take-append-seam}
+use lib.ListN.{length, take}
+use lib.Seq.{sets, length-sets}
 use Rattle.lexer.specs.declared.cursor.Cursor.{Cursor}
 use Rattle.lexer.specs.declared.refusal.Fault.{Fault}
 use Rattle.reader.specs.Ops.{operators}
@@ -17,6 +17,7 @@ use Rattle.reader.specs.declared.line_call.LineAnswer.{LineAnswer}
 use Rattle.reader.specs.declared.clause.ClauseAnswer.{ClauseAnswer}
 use Rattle.reader.specs.declared.clause.ClauseAnswer.the-variants.{Read, Refused}
 use Rattle.reader.proofs.Answer.{tree-small}
+use Rattle.reader.proofs.Puts.{sets-front}
 use Rattle.reader.proofs.Spans.{terminals-length, gathered-few}
 use Rattle.reader.proofs.Table.{fair, operators-admitted}
 use Rattle.reader.proofs.line_call.list_clause.Statement.{statement}
@@ -26,9 +27,6 @@ use Rattle.reader.proofs.line_call.list_clause.Tie as tie
 asLine : ClauseAnswer → LineAnswer
 asLine (Refused w k) = LineAnswer.Refused w k
 asLine (Read n e) = LineAnswer.Read n e
-
-front : (d bs : List ℕ) → length bs ≤ length d → take (length bs) (sets d 0 bs) ≡ bs
-front d bs h = rw (sets-eq bs d 0 (omega arith)) (take-append-seam bs (drop (0 + length bs) d))
 
 module _ (s : List ℕ) (c : Cursor) (tree : List ℕ) (n : length tree ≡ 2048) where
   module _ (d : List ℕ) (w : Fault) (k : Cursor) where
@@ -64,7 +62,7 @@ module _ (s : List ℕ) (c : Cursor) (tree : List ℕ) (n : length tree ≡ 2048
         tree = t;
         reads = q;
         inside = omega (arith, length-sets tree 0 (numbers t));
-        same = ap (λ (i : ℕ). take i (sets tree 0 (numbers t))) many ∙ front tree (numbers t) l;
+        same = ap (λ (i : ℕ). take i (sets tree 0 (numbers t))) many ∙ sets-front tree (numbers t) l;
       }
 
 ruleset ways = (refused, read-tree, needs)

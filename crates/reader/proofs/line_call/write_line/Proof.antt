@@ -66,7 +66,7 @@ module _ (s : List ℕ) (c : Cursor) (ms : List ℕ) (nodes : ℕ) (e : Cursor) 
   spanning : (starts ends : List ℕ) → length starts ≡ 1024 → length ends ≡ 1024 → Spanning s c starts ends
   spanning starts ends f g = record { valid-cursor = w .valid-cursor; started = f; ended = g }
 
-  few : Few s c mostTokens (w .tokens)
+  few : Few s c mostTokens (w .tokens) e
   few = gathered-few mostTokens s c (w .tokens) e (w .valid-cursor) (w .gathered)
 
   within : Within (length (w .tokens)) (w .tree)
