@@ -1,4 +1,4 @@
-//! The probe's format (design/probe-protocol.md): cases out, answers in, and the model's answers in the same form.
+//! The probe's format (docs/PROBE.md): cases out, answers in, and the model's answers in the same form.
 use crate::model::{self, Cursor, Fault, Kind, Reading, Token, Value};
 use std::io::{self, BufRead};
 

@@ -1,4 +1,4 @@
--- The slice that a case lends: probe-protocol, "Input". Definitions only.
+-- The slice that a case lends: docs/PROBE.md, "Input". Definitions only.
 use Prim.Native.Nat.{ℕ}
 
 -- ROOM is at most 4,096

@@ -1,4 +1,4 @@
-// Answers the cases on standard input, one after another, in the probe's format (design/probe-protocol.md of the shared folder). A case that is
+// Answers the cases on standard input, one after another, in the format of docs/PROBE.md. A case that is
 // malformed gets the line `malformed` and is the last. What is proved: the program is safe and ends; no contract can say what is read or written.
 mod answers;
 mod header;
