@@ -1,6 +1,7 @@
 //! Cases made from a seed: all short texts over chosen alphabets, random texts biased by the grammar, damaged copies of them, texts at the
 //! limits of length, and real Prolog text where some is installed.
-use crate::model::{self, Cursor, Kind, LONGEST_TEXT};
+use crate::kind::Kind;
+use crate::model::{self, Cursor, LONGEST_TEXT};
 use crate::protocol::{Case, LARGEST_ROOM, readings};
 use std::path::Path;
 

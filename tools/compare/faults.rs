@@ -1,7 +1,8 @@
 //! The self-test: a comparer that cannot fail is worth nothing. Each fault is put into a copy of the answers wherever it can stand, one
 //! answer at a time, and every single one must be noticed, by the comparison that is named.
 use crate::judge::{Counts, Difference, Rust, judge};
-use crate::model::{Kind, Value};
+use crate::kind::Kind;
+use crate::model::Value;
 use crate::protocol::{Answer, Case, FILL, answers, readings};
 
 #[derive(Copy, Clone, Debug, PartialEq, Eq)]

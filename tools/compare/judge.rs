@@ -1,5 +1,6 @@
 //! Holds answers against the Rust, where demand 2's domain lets them be compared, and against the model everywhere.
-use crate::model::{self, Cursor, Kind, Reading, Value};
+use crate::kind::Kind;
+use crate::model::{self, Cursor, Reading, Value};
 use crate::protocol::{Answer, Case, answers, readings};
 use oracle::api::{self as rust, Accepted, END_OF_FILE, Failure, INCOMPLETE_REDUCTION, Machine};
 use std::collections::BTreeMap;
@@ -87,26 +88,6 @@ pub fn ask_rust(rust: &mut Rust, case: &Case, mut go_on: impl FnMut(usize, Curso
     }
 }
 
-pub fn kind_of(kind: rust::Kind) -> Kind {
-    match kind {
-        rust::Kind::Name => Kind::Name,
-        rust::Kind::Variable => Kind::Variable,
-        rust::Kind::String => Kind::String,
-        rust::Kind::Number => Kind::Number,
-        rust::Kind::Open => Kind::Open,
-        rust::Kind::OpenCT => Kind::OpenCT,
-        rust::Kind::Close => Kind::Close,
-        rust::Kind::OpenList => Kind::OpenList,
-        rust::Kind::CloseList => Kind::CloseList,
-        rust::Kind::OpenCurly => Kind::OpenCurly,
-        rust::Kind::CloseCurly => Kind::CloseCurly,
-        rust::Kind::HeadTailSeparator => Kind::HeadTailSeparator,
-        rust::Kind::DoubleBar => Kind::DoubleBar,
-        rust::Kind::Comma => Kind::Comma,
-        rust::Kind::End => Kind::End,
-    }
-}
-
 /// The Rust's value as the port gives it; nothing for an integer beyond i64, which lies outside the domain.
 pub fn value_of(value: rust::Value) -> Option<Value> {
     match value {
@@ -150,7 +131,7 @@ pub fn hold_against_rust(case: &Case, call: &RustCall, answer: &Answer, counts: 
         (Ok(token), Answer::Refused { number, .. }) => {
             let quoted = matches!(byte_at_start, Some(b'\'' | b'"'));
             let short = quoted && token.text.len() > case.room;
-            let owed = match is_textual(kind_of(token.kind)) {
+            let owed = match is_textual(token.kind) {
                 false => 12,
                 true if short => 9,
                 true => 0,
@@ -160,7 +141,7 @@ pub fn hold_against_rust(case: &Case, call: &RustCall, answer: &Answer, counts: 
             Ok(())
         }
         (Ok(token), Answer::Token { kind, start, next, value }) => {
-            same("kind", *kind == kind_of(token.kind))?;
+            same("kind", *kind == token.kind)?;
             same("offset", next.offset == call.end)?;
             same("line", next.line == call.line)?;
             same("start of the span", call.start == Ok(*start))?;
@@ -171,7 +152,7 @@ pub fn hold_against_rust(case: &Case, call: &RustCall, answer: &Answer, counts: 
             Ok(())
         }
         (Ok(token), Answer::Text { kind, start, next, shown, .. }) => {
-            same("kind", *kind == kind_of(token.kind) && is_textual(*kind))?;
+            same("kind", *kind == token.kind && is_textual(*kind))?;
             same("offset", next.offset == call.end)?;
             same("line", next.line == call.line)?;
             same("start of the span", call.start == Ok(*start))?;

@@ -10,6 +10,7 @@ mod store;
 
 use cases::Maker;
 use judge::{Counts, Difference, Rust};
+use oracle::kind;
 use protocol::{Answer, Case};
 use std::io::{Read, Write};
 use std::path::PathBuf;

@@ -2,6 +2,7 @@
 //! It shares no code with lexer.rs, but its author had read lexer.rs, and T1 and T2 were settled by it: where all three agree, a misreading
 //! that they share is not ruled out. It stands in for the probe, decides what lies in demand 2's domain, and checks the answers written by
 //! hand. It is no part of what is proved.
+use crate::kind::Kind;
 
 pub const LONGEST_TEXT: usize = 65_535;
 pub const LARGEST_INTEGER: u128 = 9_223_372_036_854_775_807;
@@ -14,25 +15,6 @@ pub struct Cursor {
     pub offset: usize,
     pub line: usize,
     pub column: usize,
-}
-
-#[derive(Copy, Clone, Debug, PartialEq, Eq)]
-pub enum Kind {
-    Name,
-    Variable,
-    String,
-    Number,
-    Open,
-    OpenCT,
-    Close,
-    OpenList,
-    CloseList,
-    OpenCurly,
-    CloseCurly,
-    HeadTailSeparator,
-    DoubleBar,
-    Comma,
-    End,
 }
 
 #[derive(Copy, Clone, Debug, PartialEq, Eq)]

@@ -1,5 +1,6 @@
 //! The probe's format (docs/PROBE.md): cases out, answers in, and the model's answers in the same form.
-use crate::model::{self, Cursor, Fault, Kind, Reading, Token, Value};
+use crate::kind::Kind;
+use crate::model::{self, Cursor, Fault, Reading, Token, Value};
 use std::io::{self, BufRead};
 
 pub const FILL: u8 = 165;

@@ -1,4 +1,5 @@
 //! Stands in for the probe: the same format on standard input and output, answered by the model.
+mod kind;
 mod model;
 mod protocol;
 use std::io::{self, Write};

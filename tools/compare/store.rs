@@ -1,6 +1,6 @@
 //! Answers of the Rust for the stored list: cases inside the domain, made from a seed, written in the notation of the list.
 use crate::cases::{self, Maker};
-use crate::judge::{Rust, RustCall, ask_rust, class_of_failure, is_textual, kind_of, value_of};
+use crate::judge::{Rust, RustCall, ask_rust, class_of_failure, is_textual, value_of};
 use crate::model::{self, Cursor};
 use crate::notation::{show_answers, show_case};
 use crate::protocol::{Answer, Case, FILL, readings};
@@ -26,7 +26,7 @@ fn answer(case: &Case, given: Cursor, call: &RustCall, slash: usize) -> Option<A
             return (number > 0).then_some(Answer::Refused { number, at, back: given, scratch: lent });
         }
     };
-    let (kind, start) = (kind_of(token.kind), call.start.ok()?);
+    let (kind, start) = (token.kind, call.start.ok()?);
     let next = given.moved_to(&case.text, call.end);
     assert_eq!(next.line, call.line, "lines by offsets and the Rust's own");
     if case.call != b'x' {

@@ -1,30 +1,12 @@
 //! Ours: what the programs ask of the unchanged lexer.
 use crate::arena::TypedArenaPtr;
 use crate::atom_table::Atom;
+pub use crate::kind::Kind;
 use crate::machine::machine_state::MachineState;
 use crate::parser::ast::*;
 use crate::parser::char_reader::CharReader;
 use crate::parser::dashu::Integer;
 use crate::parser::lexer::{Lexer, Token};
-
-#[derive(Copy, Clone, Debug, PartialEq, Eq)]
-pub enum Kind {
-    Name,
-    Variable,
-    String,
-    Number,
-    Open,
-    OpenCT,
-    Close,
-    OpenList,
-    CloseList,
-    OpenCurly,
-    CloseCurly,
-    HeadTailSeparator,
-    DoubleBar,
-    Comma,
-    End,
-}
 
 #[derive(Copy, Clone, Debug, PartialEq, Eq)]
 pub enum Value {

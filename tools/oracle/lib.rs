@@ -36,3 +36,5 @@ pub(crate) mod parser {
 }
 
 pub mod api;
+#[path = "../compare/kind.rs"]
+pub mod kind;
