@@ -1,0 +1,139 @@
+// The C interface: the calls of `lexer` and `reader` over numbers, byte slices and lent arrays of fixed layout. `include/thrinvage.h` documents each
+// function, each field and each number for those who call it. Nothing is asked of the caller: each contract ties a function to the call it is named after.
+mod fields;
+
+use fields::put_answer;
+use fields::put_clause;
+use fields::put_line;
+use fields::put_text;
+use lexer::Cursor;
+use lexer::next_number_token;
+use lexer::next_token;
+use lexer::next_token_text;
+use reader::list_clause;
+use reader::read_clause;
+ghost use mathlib.Core.Path.{_≡_};
+ghost use Rattle.lexer.specs.Token.{nextToken, nextNumberToken};
+ghost use Rattle.lexer.specs.Text.{nextTokenText};
+ghost use Rattle.ffi.specs.Fields.{cursorAt, leaves, left, answerLeaves, textLeaves, ClauseLeft, LineLeft};
+
+#[no_mangle]
+pub extern "C" fn thrinvage_next_token(
+    text: &[u8],
+    offset: usize,
+    line: usize,
+    column: usize,
+    token: &mut [u64; 8],
+) -> u32
+    ensures { λ r. ⌜ leaves r (now (token .exit)) ≡ answerLeaves (nextToken (now (text .entry)) (cursorAt offset line column)) (now (token .entry)) ⌝ }
+{
+    put_answer(
+        next_token(
+            text,
+            Cursor {
+                offset,
+                line,
+                column,
+            },
+        ),
+        token,
+    )
+}
+
+#[no_mangle]
+pub extern "C" fn thrinvage_next_number_token(
+    text: &[u8],
+    offset: usize,
+    line: usize,
+    column: usize,
+    token: &mut [u64; 8],
+) -> u32
+    ensures { λ r. ⌜ leaves r (now (token .exit)) ≡ answerLeaves (nextNumberToken (now (text .entry)) (cursorAt offset line column)) (now (token .entry)) ⌝ }
+{
+    put_answer(
+        next_number_token(
+            text,
+            Cursor {
+                offset,
+                line,
+                column,
+            },
+        ),
+        token,
+    )
+}
+
+#[no_mangle]
+pub extern "C" fn thrinvage_next_token_text(
+    text: &[u8],
+    offset: usize,
+    line: usize,
+    column: usize,
+    scratch: &mut [u8],
+    token: &mut [u64; 11],
+) -> u32
+    ensures { λ r. ⌜ left r (now (scratch .exit)) (now (token .exit)) ≡ textLeaves (nextTokenText (now (text .entry)) (cursorAt offset line column) (now (scratch .entry))) (now (token .entry)) ⌝ }
+{
+    put_text(
+        next_token_text(
+            text,
+            Cursor {
+                offset,
+                line,
+                column,
+            },
+            scratch,
+        ),
+        token,
+    )
+}
+
+#[no_mangle]
+pub extern "C" fn thrinvage_read_clause(
+    text: &[u8],
+    offset: usize,
+    line: usize,
+    column: usize,
+    tree: &mut [u16],
+    clause: &mut [u64; 5],
+) -> u32
+    ensures { λ r. ⌜ ClauseLeft (now (text .entry)) (cursorAt offset line column) (now (tree .entry)) (now (tree .exit)) (now (clause .entry)) (now (clause .exit)) r ⌝ }
+{
+    put_clause(
+        read_clause(
+            text,
+            Cursor {
+                offset,
+                line,
+                column,
+            },
+            tree,
+        ),
+        clause,
+    )
+}
+
+#[no_mangle]
+pub extern "C" fn thrinvage_list_clause(
+    text: &[u8],
+    offset: usize,
+    line: usize,
+    column: usize,
+    out: &mut [u8],
+    clause: &mut [u64; 5],
+) -> u32
+    ensures { λ r. ⌜ LineLeft (now (text .entry)) (cursorAt offset line column) (now (out .entry)) (now (out .exit)) (now (clause .entry)) (now (clause .exit)) r ⌝ }
+{
+    put_line(
+        list_clause(
+            text,
+            Cursor {
+                offset,
+                line,
+                column,
+            },
+            out,
+        ),
+        clause,
+    )
+}

@@ -1,0 +1,226 @@
+//! The reader for Rust: safe functions over the archive's C interface. Each field is explained in include/thrinvage.h.
+#![allow(dead_code)]
+use std::ops::Range;
+
+/// The place in a text. `Cursor::default()` is its start.
+#[derive(Clone, Copy, Debug, Default, PartialEq, Eq)]
+pub struct Cursor {
+    pub offset: usize,
+    pub line: usize,
+    pub column: usize,
+}
+
+#[derive(Clone, Copy, Debug, PartialEq, Eq)]
+pub enum Kind {
+    Name,
+    Variable,
+    String,
+    Number,
+    Open,
+    OpenCT,
+    Close,
+    OpenList,
+    CloseList,
+    OpenCurly,
+    CloseCurly,
+    HeadTailSeparator,
+    DoubleBar,
+    Comma,
+    End,
+}
+
+const KINDS: [Kind; 15] = [
+    Kind::Name,
+    Kind::Variable,
+    Kind::String,
+    Kind::Number,
+    Kind::Open,
+    Kind::OpenCT,
+    Kind::Close,
+    Kind::OpenList,
+    Kind::CloseList,
+    Kind::OpenCurly,
+    Kind::CloseCurly,
+    Kind::HeadTailSeparator,
+    Kind::DoubleBar,
+    Kind::Comma,
+    Kind::End,
+];
+
+#[derive(Clone, Copy, Debug, PartialEq)]
+pub enum Value {
+    Nothing,
+    Integer(u64),
+    Float(f64),
+}
+
+/// A token: its span runs from `start` to the offset of `next`, the cursor behind it.
+#[derive(Clone, Copy, Debug, PartialEq)]
+pub struct Token {
+    pub kind: Kind,
+    pub value: Value,
+    pub start: usize,
+    pub next: Cursor,
+}
+
+/// Why a call is refused: the number of include/thrinvage.h, and the offset that it points at.
+#[derive(Clone, Copy, Debug, PartialEq, Eq)]
+pub struct Refusal {
+    pub number: u32,
+    pub offset: usize,
+}
+
+/// Where a token's decoded text stands.
+#[derive(Clone, Debug, PartialEq, Eq)]
+pub enum Part {
+    Source(Range<usize>),
+    Scratch(Range<usize>),
+}
+
+/// What was counted, the nodes of a tree or the bytes of a line, and the cursor behind the clause.
+#[derive(Clone, Copy, Debug, PartialEq, Eq)]
+pub struct Counted {
+    pub count: usize,
+    pub next: Cursor,
+}
+
+/// As many numbers as a clause's tree can have.
+pub const LARGEST_TREE: usize = 2048;
+
+#[repr(C)]
+#[derive(Clone, Copy, Default)]
+struct RawToken {
+    offset: u64,
+    line: u64,
+    column: u64,
+    refused_at: u64,
+    kind: u64,
+    start: u64,
+    value_kind: u64,
+    value: u64,
+}
+
+#[repr(C)]
+#[derive(Clone, Copy, Default)]
+struct RawText {
+    token: RawToken,
+    part: u64,
+    part_start: u64,
+    part_end: u64,
+}
+
+#[repr(C)]
+#[derive(Clone, Copy, Default)]
+struct RawClause {
+    offset: u64,
+    line: u64,
+    column: u64,
+    refused_at: u64,
+    count: u64,
+}
+
+unsafe extern "C" {
+    fn thrinvage_next_token(text: *const u8, length: usize, offset: usize, line: usize, column: usize, token: *mut RawToken) -> u32;
+    fn thrinvage_next_number_token(text: *const u8, length: usize, offset: usize, line: usize, column: usize, token: *mut RawToken) -> u32;
+    fn thrinvage_next_token_text(
+        text: *const u8, length: usize, offset: usize, line: usize, column: usize, scratch: *mut u8, room: usize, token: *mut RawText,
+    ) -> u32;
+    fn thrinvage_read_clause(
+        text: *const u8, length: usize, offset: usize, line: usize, column: usize, tree: *mut u16, room: usize, clause: *mut RawClause,
+    ) -> u32;
+    fn thrinvage_list_clause(
+        text: *const u8, length: usize, offset: usize, line: usize, column: usize, out: *mut u8, room: usize, clause: *mut RawClause,
+    ) -> u32;
+}
+
+impl RawToken {
+    fn token(&self) -> Token {
+        let value = match self.value_kind {
+            0 => Value::Nothing,
+            1 => Value::Integer(self.value),
+            _ => Value::Float(f64::from_bits(self.value)),
+        };
+        Token { kind: KINDS[self.kind as usize], value, start: self.start as usize, next: cursor(self.offset, self.line, self.column) }
+    }
+}
+
+fn cursor(offset: u64, line: u64, column: u64) -> Cursor {
+    Cursor { offset: offset as usize, line: line as usize, column: column as usize }
+}
+
+/// What was read, where nothing was refused.
+fn unless_refused<A>(number: u32, refused_at: u64, read: impl FnOnce() -> A) -> Result<A, Refusal> {
+    if number == 0 { Ok(read()) } else { Err(Refusal { number, offset: refused_at as usize }) }
+}
+
+/// The next token behind the cursor.
+pub fn next_token(text: &[u8], at: Cursor) -> Result<Token, Refusal> {
+    let mut raw = RawToken::default();
+    // SAFETY: the pointers are of slices and of a local, with their lengths.
+    let number = unsafe { thrinvage_next_token(text.as_ptr(), text.len(), at.offset, at.line, at.column, &mut raw) };
+    unless_refused(number, raw.refused_at, || raw.token())
+}
+
+/// The same for a number in a field: it may end with the text.
+pub fn next_number_token(text: &[u8], at: Cursor) -> Result<Token, Refusal> {
+    let mut raw = RawToken::default();
+    // SAFETY: as above.
+    let number = unsafe { thrinvage_next_number_token(text.as_ptr(), text.len(), at.offset, at.line, at.column, &mut raw) };
+    unless_refused(number, raw.refused_at, || raw.token())
+}
+
+/// The next token, and where its decoded text stands.
+pub fn next_token_text(text: &[u8], at: Cursor, scratch: &mut [u8]) -> Result<(Token, Part), Refusal> {
+    let mut raw = RawText::default();
+    let (room, lent) = (scratch.len(), scratch.as_mut_ptr());
+    // SAFETY: as above.
+    let number = unsafe { thrinvage_next_token_text(text.as_ptr(), text.len(), at.offset, at.line, at.column, lent, room, &mut raw) };
+    unless_refused(number, raw.token.refused_at, || {
+        let range = raw.part_start as usize..raw.part_end as usize;
+        (raw.token.token(), if raw.part == 0 { Part::Source(range) } else { Part::Scratch(range) })
+    })
+}
+
+/// The clause behind the cursor as a tree, two numbers a node: `count` counts the nodes.
+pub fn read_clause(text: &[u8], at: Cursor, tree: &mut [u16]) -> Result<Counted, Refusal> {
+    let mut raw = RawClause::default();
+    let (room, lent) = (tree.len(), tree.as_mut_ptr());
+    // SAFETY: as above.
+    let number = unsafe { thrinvage_read_clause(text.as_ptr(), text.len(), at.offset, at.line, at.column, lent, room, &mut raw) };
+    unless_refused(number, raw.refused_at, || raw.counted())
+}
+
+/// The clause behind the cursor as a line of the listing: `count` counts its bytes.
+pub fn list_clause(text: &[u8], at: Cursor, out: &mut [u8]) -> Result<Counted, Refusal> {
+    let mut raw = RawClause::default();
+    let (room, lent) = (out.len(), out.as_mut_ptr());
+    // SAFETY: as above.
+    let number = unsafe { thrinvage_list_clause(text.as_ptr(), text.len(), at.offset, at.line, at.column, lent, room, &mut raw) };
+    unless_refused(number, raw.refused_at, || raw.counted())
+}
+
+impl RawClause {
+    fn counted(&self) -> Counted {
+        Counted { count: self.count as usize, next: cursor(self.offset, self.line, self.column) }
+    }
+}
+
+/// The tokens of a text, and last the refusal that ended it: refusal 1 at the text's length where nothing but layout was left.
+pub struct Tokens<'t> {
+    text: &'t [u8],
+    at: Option<Cursor>,
+}
+
+pub fn tokens(text: &[u8]) -> Tokens<'_> {
+    Tokens { text, at: Some(Cursor::default()) }
+}
+
+impl Iterator for Tokens<'_> {
+    type Item = Result<Token, Refusal>;
+
+    fn next(&mut self) -> Option<Self::Item> {
+        let read = next_token(self.text, self.at?);
+        self.at = read.as_ref().ok().map(|token| token.next);
+        Some(read)
+    }
+}
