@@ -34,18 +34,22 @@ extern "C" {
 enum thrinvage_refusal {
     THRINVAGE_READ = 0,
     THRINVAGE_END_OF_TEXT = 1,      /* a rule needs a character and the text has ended; at the text's length */
-    THRINVAGE_UNCLOSED_COMMENT = 2, /* a bracketed comment is not closed; at its slash */
+    THRINVAGE_UNCLOSED_COMMENT = 2, /* a bracketed comment is not closed, and the text does not end right behind its opening mark; at its slash */
     THRINVAGE_NO_TOKEN = 3,         /* no token of this call starts with this character; at it */
-    THRINVAGE_BAD_QUOTED = 4,       /* a quoted item holds a raw newline or tab, or an escape that ISO lacks; at the token */
+    THRINVAGE_BAD_QUOTED = 4,       /* a raw newline or tab, or an escape that ISO lacks, in a quoted item or after 0'; at the token */
     THRINVAGE_FOREIGN_BYTE = 5,     /* a byte outside ISO's characters, in comments too; at it */
     THRINVAGE_SET_ASIDE = 6,        /* `_` right after the leading digits, or 0'\ and a newline; at the token */
-    THRINVAGE_OUT_OF_LIMIT = 7,     /* an integer, a float or an escape out of its limit; at the token */
-    THRINVAGE_NOT_VALID = 8,        /* the text is longer than 65,535 bytes, or the cursor is not valid in it; at 0 */
+    THRINVAGE_OUT_OF_LIMIT = 7,     /* a number or an escape out of its limit (below), in a token otherwise whole; at the token */
+    THRINVAGE_NOT_VALID = 8,        /* the text is longer than 65,535 bytes, or the cursor is not valid (below); at 0 */
     THRINVAGE_NO_ROOM = 9,          /* the scratch, the tree or the line is too short; at the token, or at the clause's first */
     THRINVAGE_TOO_MANY_TOKENS = 10, /* 1,024 tokens, none an end mark; at the first */
     THRINVAGE_NO_READING = 11,      /* the grammar has no reading of the clause; at its first token */
     THRINVAGE_NO_TEXT = 12          /* the token is no name, variable or string; at it */
 };
+
+/* The limits of refusal 7: an integer is at most 9,223,372,036,854,775,807; the code of an escape is 1 to 127; the digits of a float, read as one
+ * integer without the point, are at most 9,007,199,254,740,992, to be multiplied by ten to the power of -22 to 22.
+ * A cursor is valid for refusal 8 if its offset is at most the text's length, and its line and its column are at most its offset. */
 
 /* A token's field `kind`. */
 enum thrinvage_kind {
@@ -127,7 +131,8 @@ uint32_t thrinvage_next_token(const uint8_t *text, size_t length, size_t offset,
 uint32_t thrinvage_next_number_token(const uint8_t *text, size_t length, size_t offset, size_t line, size_t column, struct thrinvage_token *token);
 
 /* The next token and its decoded text. A quoted item is decoded to the front of the scratch, which has `room` bytes; a name or a variable
- * that is not quoted stays in the text, and nothing is written to the scratch. */
+ * that is not quoted stays in the text, and nothing is written to the scratch. A decoded text is never longer than its source: 65,535 bytes are
+ * always enough. */
 uint32_t thrinvage_next_token_text(const uint8_t *text, size_t length, size_t offset, size_t line, size_t column, uint8_t *scratch, size_t room,
                                    struct thrinvage_token_text *token);
 
@@ -136,7 +141,8 @@ uint32_t thrinvage_next_token_text(const uint8_t *text, size_t length, size_t of
 uint32_t thrinvage_read_clause(const uint8_t *text, size_t length, size_t offset, size_t line, size_t column, uint16_t *tree, size_t room,
                                struct thrinvage_clause *clause);
 
-/* The same clause as one line of the listing, without a newline, at the front of `out`, which has `room` bytes. */
+/* The same clause as one line of the listing, without a newline, at the front of `out`, which has `room` bytes. A line has the spellings of
+ * different tokens and at most five bytes more for each of 1,023 nodes: 70,650 bytes are always enough. */
 uint32_t thrinvage_list_clause(const uint8_t *text, size_t length, size_t offset, size_t line, size_t column, uint8_t *out, size_t room,
                                struct thrinvage_clause *clause);
 

@@ -1,0 +1,198 @@
+//! Prints what the reader reads.
+//!
+//! ```text
+//! read tokens|texts|clauses|listing [FILE]    of a file, or of standard input
+//! read number TEXT                            the number in a field
+//! ```
+//!
+//! A line is as the probe (docs/PROBE.md) or the listing program writes it. The last one is the refusal that ended the text: number 1, at the
+//! text's length, where all of it was read.
+mod thrinvage;
+
+use std::env::args;
+use std::fs::File;
+use std::io::{Error, Read, Result, Write, stdin, stdout};
+use std::process::ExitCode;
+use thrinvage::{Cursor, Kind, LARGEST_TREE, Part, Refusal, Token, Value};
+use thrinvage::{list_clause, next_number_token, next_token, next_token_text, read_clause, tokens};
+
+/// One byte more than a text may have: a longer file is refused then, by number 8, and not cut short in silence.
+const MOST_BYTES: usize = 65536;
+/// Bytes that are always enough for a clause's line.
+const LARGEST_LINE: usize = 70650;
+/// The refusal of the text call where the token is no name, variable or string.
+const NO_TEXT: u32 = 12;
+
+fn kind_name(kind: Kind) -> &'static str {
+    match kind {
+        Kind::Name => "name",
+        Kind::Variable => "variable",
+        Kind::String => "string",
+        Kind::Number => "number",
+        Kind::Open => "open",
+        Kind::OpenCT => "open_ct",
+        Kind::Close => "close",
+        Kind::OpenList => "open_list",
+        Kind::CloseList => "close_list",
+        Kind::OpenCurly => "open_curly",
+        Kind::CloseCurly => "close_curly",
+        Kind::HeadTailSeparator => "bar",
+        Kind::DoubleBar => "double_bar",
+        Kind::Comma => "comma",
+        Kind::End => "end",
+    }
+}
+
+fn shown_cursor(at: Cursor) -> String {
+    format!("{} {} {}", at.offset, at.line, at.column)
+}
+
+fn shown_value(value: Value) -> String {
+    match value {
+        Value::Nothing => "-".to_string(),
+        Value::Integer(n) => n.to_string(),
+        Value::Float(x) => format!("f{:016x}", x.to_bits()),
+    }
+}
+
+fn print_token(out: &mut impl Write, token: Token) -> Result<()> {
+    writeln!(out, "token {} {} {} {}", kind_name(token.kind), token.start, shown_cursor(token.next), shown_value(token.value))
+}
+
+/// The refusal, and the cursor where it was met.
+fn print_refused(out: &mut impl Write, refusal: Refusal, at: Cursor) -> Result<()> {
+    writeln!(out, "refused {} {} {}", refusal.number, refusal.offset, shown_cursor(at))
+}
+
+fn print_tokens(out: &mut impl Write, text: &[u8]) -> Result<()> {
+    let mut at = Cursor::default();
+    for read in tokens(text) {
+        match read {
+            Ok(token) => {
+                print_token(out, token)?;
+                at = token.next;
+            }
+            Err(refusal) => print_refused(out, refusal, at)?,
+        }
+    }
+    Ok(())
+}
+
+fn print_number(out: &mut impl Write, text: &[u8]) -> Result<()> {
+    let at = Cursor::default();
+    match next_number_token(text, at) {
+        Ok(token) => print_token(out, token),
+        Err(refusal) => print_refused(out, refusal, at),
+    }
+}
+
+fn print_text(out: &mut impl Write, text: &[u8], scratch: &[u8], part: Part) -> Result<()> {
+    out.write_all(match part {
+        Part::Source(range) => &text[range],
+        Part::Scratch(range) => &scratch[range],
+    })?;
+    writeln!(out)
+}
+
+/// The decoded names, variables and strings, a line each. A token that has no text is stepped over by the token call.
+fn print_texts(out: &mut impl Write, text: &[u8]) -> Result<()> {
+    let mut scratch = vec![0; MOST_BYTES]; // room for any: a decoded text is never longer than its source
+    let mut at = Cursor::default();
+    loop {
+        let read = match next_token_text(text, at, &mut scratch) {
+            Ok((token, part)) => {
+                print_text(out, text, &scratch, part)?;
+                Ok(token)
+            }
+            Err(refusal) if refusal.number == NO_TEXT => next_token(text, at),
+            Err(refusal) => Err(refusal),
+        };
+        match read {
+            Ok(token) => at = token.next,
+            Err(refusal) => return print_refused(out, refusal, at),
+        }
+    }
+}
+
+/// Two numbers a node, children before their parent: the index of its token in the clause; its kind (enum thrinvage_node of the header) times
+/// 1,024 plus the count of its children.
+fn print_tree(out: &mut impl Write, tree: &[u16]) -> Result<()> {
+    write!(out, "tree")?;
+    for number in tree {
+        write!(out, " {number}")?;
+    }
+    writeln!(out)
+}
+
+fn print_clauses(out: &mut impl Write, text: &[u8]) -> Result<()> {
+    let mut tree = [0; LARGEST_TREE];
+    let mut at = Cursor::default();
+    loop {
+        match read_clause(text, at, &mut tree) {
+            Ok(clause) => {
+                writeln!(out, "clause {} {}", clause.count, shown_cursor(clause.next))?;
+                print_tree(out, &tree[..2 * clause.count])?;
+                at = clause.next;
+            }
+            Err(refusal) => return print_refused(out, refusal, at),
+        }
+    }
+}
+
+fn print_listing(out: &mut impl Write, text: &[u8]) -> Result<()> {
+    let mut line = vec![0; LARGEST_LINE];
+    let mut at = Cursor::default();
+    loop {
+        match list_clause(text, at, &mut line) {
+            Ok(clause) => {
+                out.write_all(&line[..clause.count])?;
+                writeln!(out)?;
+                at = clause.next;
+            }
+            Err(refusal) => return writeln!(out, "refused {} at {}", refusal.number, refusal.offset),
+        }
+    }
+}
+
+fn usage() -> Error {
+    Error::other("usage: read tokens|texts|clauses|listing [FILE]\n       read number TEXT")
+}
+
+fn read_bytes(file: impl Read) -> Result<Vec<u8>> {
+    let mut text = Vec::new();
+    file.take(MOST_BYTES as u64).read_to_end(&mut text)?;
+    Ok(text)
+}
+
+/// The bytes of the file, or of standard input where none is named.
+fn read_text(names: &[&str]) -> Result<Vec<u8>> {
+    match names {
+        [] => read_bytes(stdin()),
+        [name] => File::open(name).and_then(read_bytes).map_err(|error| Error::other(format!("{name}: {error}"))),
+        _ => Err(usage()),
+    }
+}
+
+fn run(words: &[&str]) -> Result<()> {
+    let mut out = stdout().lock();
+    match words {
+        ["number", text] => print_number(&mut out, text.as_bytes()),
+        ["tokens", names @ ..] => print_tokens(&mut out, &read_text(names)?),
+        ["texts", names @ ..] => print_texts(&mut out, &read_text(names)?),
+        ["clauses", names @ ..] => print_clauses(&mut out, &read_text(names)?),
+        ["listing", names @ ..] => print_listing(&mut out, &read_text(names)?),
+        _ => Err(usage()),
+    }
+}
+
+fn main() -> ExitCode {
+    let words: Vec<String> = args().skip(1).collect();
+    let words: Vec<&str> = words.iter().map(String::as_str).collect();
+    match run(&words) {
+        Ok(()) => ExitCode::SUCCESS,
+        Err(error) => {
+            eprintln!("{error}");
+            ExitCode::from(2)
+        }
+    }
+}
