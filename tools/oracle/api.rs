@@ -56,6 +56,17 @@ impl Machine {
         self.0.atom_tbl.clear();
         Session { lexer: Lexer::new(CharReader::new(text), &mut self.0), length: text.len() }
     }
+
+    /// The tokens up to the first error, counted and dropped: for times, so it does nothing but what lexer.rs does.
+    pub fn count_tokens(&mut self, text: &[u8]) -> usize {
+        let mut session = self.start(text);
+        let mut count = 0;
+        while let Ok(token) = session.lexer.next_token() {
+            std::hint::black_box(&token);
+            count += 1;
+        }
+        count
+    }
 }
 
 impl Session<'_, '_> {

@@ -1,0 +1,95 @@
+//! What is timed: four ways to read a text from its start to its end.
+use crate::cut::Batch;
+use crate::model::LONGEST_TEXT;
+use crate::thrinvage::{self, Cursor, LARGEST_TREE, Part, Refusal};
+use oracle::api::Machine;
+use std::hint::black_box;
+
+const NO_TEXT: u32 = 12;
+
+pub enum Reader {
+    TokenCall,
+    TextCall { scratch: Vec<u8>, kept: Vec<u8> },
+    ClauseCall { tree: Vec<u16> },
+    Rust(Box<Machine>),
+}
+
+impl Reader {
+    pub fn token_call() -> Reader {
+        Reader::TokenCall
+    }
+
+    pub fn text_call() -> Reader {
+        Reader::TextCall { scratch: vec![0; LONGEST_TEXT], kept: Vec::new() }
+    }
+
+    pub fn clause_call() -> Reader {
+        Reader::ClauseCall { tree: vec![0; LARGEST_TREE] }
+    }
+
+    pub fn rust() -> Reader {
+        Reader::Rust(Box::default())
+    }
+
+    /// Reads the whole batch. That all of it was read is asked anew each time, at the cost of a comparison.
+    pub fn read(&mut self, batch: &Batch) {
+        let read: usize = batch.pieces.iter().map(|text| self.count(text)).sum();
+        let due = if matches!(self, Reader::ClauseCall { .. }) { batch.clauses } else { batch.tokens };
+        assert_eq!(read, due, "a reader stopped early");
+    }
+
+    fn count(&mut self, text: &[u8]) -> usize {
+        match self {
+            Reader::TokenCall => tokens(text),
+            Reader::TextCall { scratch, kept } => texts(text, scratch, kept),
+            Reader::ClauseCall { tree } => clauses(text, tree),
+            Reader::Rust(machine) => machine.count_tokens(text),
+        }
+    }
+}
+
+fn tokens(text: &[u8]) -> usize {
+    let (mut at, mut count) = (Cursor::default(), 0);
+    while let Ok(token) = thrinvage::next_token(text, at) {
+        at = black_box(&token).next;
+        count += 1;
+    }
+    count
+}
+
+/// Each token by the text call, and where that says there is no text, by the token call. Texts are copied behind each other, as the
+/// Rust's table of atoms does it here.
+fn texts(text: &[u8], scratch: &mut [u8], kept: &mut Vec<u8>) -> usize {
+    let (mut at, mut count) = (Cursor::default(), 0);
+    kept.clear();
+    while let Ok(next) = text_or_token(text, at, scratch, kept) {
+        at = next;
+        count += 1;
+    }
+    black_box(&kept);
+    count
+}
+
+fn text_or_token(text: &[u8], at: Cursor, scratch: &mut [u8], kept: &mut Vec<u8>) -> Result<Cursor, Refusal> {
+    match thrinvage::next_token_text(text, at, scratch) {
+        Ok((token, part)) => {
+            kept.extend_from_slice(match part {
+                Part::Source(range) => &text[range],
+                Part::Scratch(range) => &scratch[range],
+            });
+            Ok(black_box(&token).next)
+        }
+        Err(Refusal { number: NO_TEXT, .. }) => thrinvage::next_token(text, at).map(|token| black_box(&token).next),
+        Err(refusal) => Err(refusal),
+    }
+}
+
+fn clauses(text: &[u8], tree: &mut [u16]) -> usize {
+    let (mut at, mut count) = (Cursor::default(), 0);
+    while let Ok(read) = thrinvage::read_clause(text, at, tree) {
+        at = black_box(&read).next;
+        count += 1;
+    }
+    black_box(&tree);
+    count
+}
