@@ -1,0 +1,116 @@
+/* Measures the stack that each call needs: the stack below is painted, the call is made, and what is no longer paint was needed.
+ * The texts are those that drive a call deepest; the largest need of each call is printed. */
+#include <stdio.h>
+#include <string.h>
+
+#include "thrinvage.h"
+
+#define PAINTED (1 << 20)
+#define PAINT 0xA5
+#define MOST_BYTES 65535
+/* A clause of 1,024 tokens, the end mark among them, nests so deep at most: a prefix operator each, and an atom. */
+#define DEEPEST 1022
+
+static uint8_t text[MOST_BYTES];
+static size_t length;
+static uint8_t scratch[MOST_BYTES];
+static uint16_t tree[2048];
+static uint8_t line[70650];
+
+static void next_token(void) {
+    struct thrinvage_token t = {0};
+    while (thrinvage_next_token(text, length, t.offset, t.line, t.column, &t) == THRINVAGE_READ) {
+    }
+}
+
+static void next_number_token(void) {
+    struct thrinvage_token t = {0};
+    thrinvage_next_number_token(text, length, 0, 0, 0, &t);
+}
+
+static void next_token_text(void) {
+    struct thrinvage_token_text t = {0};
+    thrinvage_next_token_text(text, length, 0, 0, 0, scratch, sizeof scratch, &t);
+}
+
+static void read_clause(void) {
+    struct thrinvage_clause c = {0};
+    thrinvage_read_clause(text, length, 0, 0, 0, tree, 2048, &c);
+}
+
+static void list_clause(void) {
+    struct thrinvage_clause c = {0};
+    thrinvage_list_clause(text, length, 0, 0, 0, line, sizeof line, &c);
+}
+
+static const struct {
+    const char *name;
+    void (*call)(void);
+} CALLS[] = {{"thrinvage_next_token", next_token},
+             {"thrinvage_next_number_token", next_number_token},
+             {"thrinvage_next_token_text", next_token_text},
+             {"thrinvage_read_clause", read_clause},
+             {"thrinvage_list_clause", list_clause}};
+
+/* Texts that go deep, each in its own way: `front`, `open` so many times, `middle`, `close` as often, `back`. */
+static const struct {
+    const char *front, *open, *middle, *close, *back;
+    int count;
+} TEXTS[] = {
+    {"", "- ", "a", "", ".", DEEPEST},            /* prefix operators */
+    {"", "a,", "a", "", ".", DEEPEST / 2},        /* infix operators */
+    {"", "[", "", "]", ".", DEEPEST / 2},         /* lists */
+    {"", "f(", "a", ")", ".", DEEPEST / 3},       /* calls */
+    {"'", "\\x41\\", "", "", "'. ", 9000},        /* a long quoted item */
+    {"1.5e10, f(0x1F,0'a,", "'b',\"c\",D,/* e */ % f\n", "g", "", "). ", 100}, /* tokens of all kinds */
+};
+
+static void put(const char *part, int count) {
+    for (int i = 0; i < count; i++) {
+        memcpy(text + length, part, strlen(part));
+        length += strlen(part);
+    }
+}
+
+static void make_text(size_t which) {
+    length = 0;
+    put(TEXTS[which].front, 1);
+    put(TEXTS[which].open, TEXTS[which].count);
+    put(TEXTS[which].middle, 1);
+    put(TEXTS[which].close, TEXTS[which].count);
+    put(TEXTS[which].back, 1);
+}
+
+/* Both have the same frame, so that the one reads what the other painted. */
+static __attribute__((noinline)) void paint(void) {
+    volatile uint8_t below[PAINTED];
+    for (size_t i = 0; i < PAINTED; i++)
+        below[i] = PAINT;
+}
+
+static __attribute__((noinline)) size_t unpainted(void) {
+    volatile uint8_t below[PAINTED];
+    size_t i = 0;
+    while (i < PAINTED && below[i] == PAINT)
+        i++;
+    return PAINTED - i;
+}
+
+static size_t need(void (*call)(void)) {
+    paint();
+    call();
+    return unpainted();
+}
+
+int main(void) {
+    for (size_t c = 0; c < sizeof CALLS / sizeof CALLS[0]; c++) {
+        size_t most = 0;
+        for (size_t t = 0; t < sizeof TEXTS / sizeof TEXTS[0]; t++) {
+            make_text(t);
+            size_t now = need(CALLS[c].call);
+            most = now > most ? now : most;
+        }
+        printf("%s %zu\n", CALLS[c].name, most);
+    }
+    return 0;
+}
