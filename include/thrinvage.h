@@ -141,8 +141,9 @@ uint32_t thrinvage_next_token_text(const uint8_t *text, size_t length, size_t of
 uint32_t thrinvage_read_clause(const uint8_t *text, size_t length, size_t offset, size_t line, size_t column, uint16_t *tree, size_t room,
                                struct thrinvage_clause *clause);
 
-/* The same clause as one line of the listing, without a newline, at the front of `out`, which has `room` bytes. 70,650 bytes are enough: the
- * spellings of different tokens, and at most five bytes more for each of 1,023 nodes (argued, not proved; a shorter room is refused by 9). */
+/* The same clause as one line of the listing, at the front of `out`, which has `room` bytes. No newline is put behind it, and none stands in it but
+ * where a quoted item of the source has one behind a backslash. 70,650 bytes are enough: the spellings of different tokens, and at most five bytes
+ * more for each of 1,023 nodes (argued, not proved; a shorter room is refused by 9). */
 uint32_t thrinvage_list_clause(const uint8_t *text, size_t length, size_t offset, size_t line, size_t column, uint8_t *out, size_t room,
                                struct thrinvage_clause *clause);
 

@@ -1,9 +1,10 @@
 //! The self-test: a comparer that cannot fail is worth nothing. Each fault is put into a copy of the answers wherever it can stand, one
 //! answer at a time, and every single one must be noticed, by the comparison that is named.
+use crate::Ask;
 use crate::judge::{Counts, Difference, Rust, judge};
 use crate::kind::Kind;
 use crate::model::Value;
-use crate::protocol::{Answer, Case, FILL, answers, readings};
+use crate::protocol::{Answer, Case, FILL, readings};
 
 #[derive(Copy, Clone, Debug, PartialEq, Eq)]
 enum Noticed {
@@ -176,15 +177,15 @@ const FAULTS_OF_01: [(&str, Noticed, Fault); 5] = [
     }),
 ];
 
-/// Puts every fault into the answers of the cases; says what it saw, and whether all were noticed.
-pub fn self_test(cases: &[Case]) -> bool {
+/// Puts every fault into the answers that `ask` gives to the cases; says what it saw, and whether all were noticed.
+pub fn self_test(cases: &[Case], ask: Ask) -> bool {
     let mut rust = Rust::default();
     let mut all = true;
     for (name, by, fault) in FAULTS.iter().chain(&FAULTS_OF_01) {
         let (mut put, mut seen) = (0, 0);
         for case in cases {
             let held = readings(case);
-            let true_answers = answers(case, &held);
+            let true_answers = ask(case, &held);
             // only what lies in the domain can be noticed by the Rust
             if *by == ByTheRust && (crate::model::has_foreign(&case.text) || held.iter().any(|r| r.outside.is_some())) {
                 continue;
@@ -207,9 +208,8 @@ pub fn self_test(cases: &[Case]) -> bool {
         all &= put > 0 && put == seen;
     }
     let mut silent = Counts::default();
-    let untouched = cases
-        .iter()
-        .filter(|case| judge(&mut rust, case, &readings(case), &answers(case, &readings(case)), &mut silent).is_some());
+    let untouched =
+        cases.iter().filter(|case| judge(&mut rust, case, &readings(case), &ask(case, &readings(case)), &mut silent).is_some());
     let untouched = untouched.count();
     println!("no fault: {} cases, different {untouched}", cases.len());
     all && untouched == 0

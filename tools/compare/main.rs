@@ -1,4 +1,6 @@
-//! Holds the probe, or the model in its place, against the Rust. See tools/README.md.
+//! Holds the probe, or the archive, or the model in their place, against the Rust. See tools/README.md.
+#[cfg(archive)]
+mod archive;
 mod cases;
 mod departures;
 mod faults;
@@ -7,9 +9,13 @@ mod model;
 mod notation;
 mod protocol;
 mod store;
+#[cfg(archive)]
+#[path = "../../examples/rust/thrinvage.rs"]
+mod thrinvage;
 
 use cases::Maker;
 use judge::{Counts, Difference, Rust};
+use model::Reading;
 use oracle::kind;
 use protocol::{Answer, Case};
 use std::io::{Read, Write};
@@ -17,8 +23,8 @@ use std::path::PathBuf;
 use std::process::{Command, ExitCode, Stdio};
 use std::sync::{Mutex, mpsc};
 
-const USAGE: &str = "usage: compare [--seed N] [--cases N] [--jobs N] [--real FOLDER].. [--probe COMMAND ARGUMENT..]
-       compare --self-test [--seed N]
+const USAGE: &str = "usage: compare [--seed N] [--cases N] [--jobs N] [--real FOLDER].. [--archive | --probe COMMAND ARGUMENT..]
+       compare --self-test [--seed N] [--archive]
        compare --departures [--cases N]
        compare --store FILE [--seed N] [--cases N]
        compare --check FOLDER/      (FOLDER/ that holds a stored list, stdin and stdout)";
@@ -36,13 +42,46 @@ const SHOWN_DIFFERENCES: usize = 5;
 /// Shrinking puts no more bytes than these to the probe at once.
 const SHRINK_BYTES: usize = 1_000_000;
 
+/// Answers to a case, made in this process; some are made from the model's readings.
+type Ask = fn(&Case, &[Reading]) -> Vec<Answer>;
+
+/// Who answers the cases.
+enum Source {
+    Model,
+    Archive(Ask),
+    Probe(Vec<String>),
+}
+
+/// The archive, where tools/compare/build found one to link; it says which by the first digits of its SHA-256.
+#[cfg(archive)]
+const ARCHIVE: Option<(Ask, &str)> = Some((archive::answers, env!("ARCHIVE_SUM")));
+#[cfg(not(archive))]
+const ARCHIVE: Option<(Ask, &str)> = None;
+
+impl Source {
+    fn archive() -> Source {
+        let Some((ask, _)) = ARCHIVE else {
+            eprintln!("compare: target/native/libffi.a is missing, or was when tools/compare/build ran: nothing is compared");
+            std::process::exit(2)
+        };
+        Source::Archive(ask)
+    }
+
+    fn name(&self) -> String {
+        match self {
+            Source::Model => "the model".into(),
+            Source::Archive(_) => format!("the archive ({})", ARCHIVE.expect("linked").1),
+            Source::Probe(words) => words.join(" "),
+        }
+    }
+}
+
 struct Options {
     seed: u64,
     cases: Option<usize>,
     jobs: usize,
     real: Vec<PathBuf>,
-    /// empty: the model answers
-    probe: Vec<String>,
+    source: Source,
     self_test: bool,
     departures: bool,
     store: Option<PathBuf>,
@@ -55,7 +94,7 @@ fn options() -> Option<Options> {
         cases: None,
         jobs: 1,
         real: Vec::new(),
-        probe: Vec::new(),
+        source: Source::Model,
         self_test: false,
         departures: false,
         store: None,
@@ -68,7 +107,11 @@ fn options() -> Option<Options> {
             "--cases" => options.cases = Some(words.next()?.parse().ok()?),
             "--jobs" => options.jobs = words.next()?.parse().ok()?,
             "--real" => options.real.push(words.next()?.into()),
-            "--probe" => options.probe = words.by_ref().collect(),
+            "--archive" => options.source = Source::archive(),
+            "--probe" => {
+                let probe: Vec<String> = words.by_ref().collect();
+                options.source = Source::Probe((!probe.is_empty()).then_some(probe)?);
+            }
             "--self-test" => options.self_test = true,
             "--departures" => options.departures = true,
             "--store" => options.store = Some(words.next()?.into()),
@@ -111,8 +154,8 @@ fn take_answers<'l>(case: &Case, lines: &mut impl Iterator<Item = &'l str>) -> (
     (given, false)
 }
 
-struct Subject<'p> {
-    probe: &'p [String],
+struct Subject<'s> {
+    source: &'s Source,
     rust: Rust,
 }
 
@@ -121,13 +164,16 @@ impl Subject<'_> {
     fn judge(&mut self, batch: &[Case], counts: &mut Counts, mut different: impl FnMut(&Case, Difference, Vec<Answer>)) {
         let mut rest = batch;
         for _ in 0..MOST_RUNS {
-            let output = if self.probe.is_empty() { String::new() } else { run_probe(self.probe, rest) };
+            let output = if let Source::Probe(probe) = self.source { run_probe(probe, rest) } else { String::new() };
             let mut lines = output.split_terminator('\n');
             let mut judged = 0;
             for case in rest {
                 let held = protocol::readings(case);
-                let (given, whole) =
-                    if self.probe.is_empty() { (protocol::answers(case, &held), true) } else { take_answers(case, &mut lines) };
+                let (given, whole) = match self.source {
+                    Source::Model => (protocol::answers(case, &held), true),
+                    Source::Archive(ask) => (ask(case, &held), true),
+                    Source::Probe(_) => take_answers(case, &mut lines),
+                };
                 if let Some(difference) = judge::judge(&mut self.rust, case, &held, &given, counts) {
                     different(case, difference, given);
                 }
@@ -240,15 +286,14 @@ fn report(difference: &(Case, Difference, Vec<Answer>)) {
 
 fn compare(options: &Options) -> ExitCode {
     let total = options.cases.unwrap_or(1_000_000);
-    let who = if options.probe.is_empty() { "the model".to_string() } else { options.probe.join(" ") };
-    println!("{who} beside the Rust, seed {}", options.seed);
+    println!("{} beside the Rust, seed {}", options.source.name(), options.seed);
     let (sender, receiver) = mpsc::sync_channel::<Vec<Case>>(options.jobs);
     let receiver = Mutex::new(receiver);
     let sums = Mutex::new((Counts::default(), Vec::new()));
     let said = std::thread::scope(|scope| {
         for _ in 0..options.jobs {
             scope.spawn(|| {
-                let mut subject = Subject { probe: &options.probe, rust: Rust::default() };
+                let mut subject = Subject { source: &options.source, rust: Rust::default() };
                 loop {
                     let next = receiver.lock().expect("no worker fails").recv();
                     let Ok(batch) = next else { return };
@@ -271,7 +316,7 @@ fn compare(options: &Options) -> ExitCode {
     said.iter().for_each(|line| println!("{line}"));
     let (counts, mut found) = sums.into_inner().expect("no worker fails");
     found.sort_by_key(|(case, ..)| case.text.len());
-    let mut subject = Subject { probe: &options.probe, rust: Rust::default() };
+    let mut subject = Subject { source: &options.source, rust: Rust::default() };
     let mut shown: Vec<Case> = Vec::new();
     for difference in found.into_iter().take(SHOWN_DIFFERENCES) {
         let smallest = subject.shrink(difference);
@@ -287,7 +332,7 @@ fn compare(options: &Options) -> ExitCode {
     println!("refusals 9 and 12 of tokens that the Rust accepts {}", counts.owed);
     let outside: Vec<String> = counts.outside.iter().map(|(why, n)| format!("{n} {why}")).collect();
     println!("out of domain {}: {}", counts.outside.values().sum::<u64>(), outside.join(", "));
-    println!("answers held against the model {}", if options.probe.is_empty() { 0 } else { counts.modelled });
+    println!("answers held against the model {}", if let Source::Model = options.source { 0 } else { counts.modelled });
     println!(
         "different {}: {} from the Rust, {} from document 01",
         counts.different(),
@@ -305,7 +350,8 @@ fn self_test(options: &Options) -> ExitCode {
         let text = maker.text();
         maker.cases_of(&text, &mut |case| cases.push(case));
     }
-    if faults::self_test(&cases) {
+    let ask = if let Source::Archive(ask) = options.source { ask } else { protocol::answers };
+    if faults::self_test(&cases, ask) {
         println!("self-test: every fault was noticed");
         return ExitCode::SUCCESS;
     }

@@ -23,7 +23,8 @@ pub enum Answer {
     Refused { number: usize, at: usize, back: Cursor, scratch: Vec<u8> },
 }
 
-const KINDS: [(Kind, &str); 15] = [
+/// The kinds in the order of their numbers in the C interface.
+pub const KINDS: [(Kind, &str); 15] = [
     (Kind::Name, "name"),
     (Kind::Variable, "variable"),
     (Kind::String, "string"),

@@ -1,0 +1,473 @@
+/* Calls the archive with random texts, cursors and rooms, each call twice in two places, and looks at all that comes back. See tools/README.md.
+ * usage: fuzz [--seconds N] [--seed N] [--round N] [--place N] FILE..    (FILEs of Prolog, parts of which are among the texts) */
+#include "slice.h"
+#include "texts.h"
+#include "thrinvage.h"
+#include <sanitizer/common_interface_defs.h>
+#include <stdio.h>
+#include <stdlib.h>
+#include <string.h>
+#include <time.h>
+
+enum call { TOKEN, NUMBER, TEXT, READ, LIST, CALLS };
+enum { REFUSALS = 13, LONGEST_TEXT = 65535, LARGEST_ROOM = 4096, MOST_NODES = 1023 };
+
+static const char *const call_names[CALLS] = {"next_token", "next_number_token", "next_token_text", "read_clause", "list_clause"};
+
+struct cursor {
+    size_t offset, line, column;
+};
+
+struct asked {
+    enum call call;
+    struct cursor at;
+    size_t room;
+};
+
+/* All begin with the cursor and the refusal's offset. */
+union record {
+    struct thrinvage_token token;
+    struct thrinvage_token_text text;
+    struct thrinvage_clause clause;
+    uint64_t fields[11];
+};
+enum { OFFSET_FIELD, LINE_FIELD, COLUMN_FIELD, REFUSED_AT_FIELD };
+
+/* What a call left behind; what it did not write has the byte `fill`. */
+struct given {
+    uint32_t number;
+    uint8_t fill;
+    union record record;
+    uint8_t lent[2 * LARGEST_ROOM];
+};
+
+/* What runs, for a report of what fails. */
+static uint64_t seed, now_round;
+static struct asked now_asked;
+static struct text now_text;
+
+static uint64_t counts[CALLS][REFUSALS];
+static int only_place = -1;
+
+/* ---- reports */
+
+static void show_case(void)
+{
+    fprintf(stderr, "fuzz: --seed %llu --round %llu: %s at %zu %zu %zu, room %zu, text of %zu bytes:", (unsigned long long)seed,
+            (unsigned long long)now_round, call_names[now_asked.call], now_asked.at.offset, now_asked.at.line, now_asked.at.column, now_asked.room, now_text.length);
+    for (size_t i = 0; i < now_text.length && i < 300; i++)
+        fprintf(stderr, " %02x", now_text.bytes[i]);
+    fprintf(stderr, "\n");
+}
+
+static void must(bool so, const char *what)
+{
+    if (so)
+        return;
+    fprintf(stderr, "fuzz: fault: %s\n", what);
+    show_case();
+    _Exit(1); /* the search for leaks would take seconds, and tells nothing more */
+}
+
+/* ---- one call in its places */
+
+static size_t record_size(enum call call)
+{
+    if (call == TEXT)
+        return sizeof(struct thrinvage_token_text);
+    return call == READ || call == LIST ? sizeof(struct thrinvage_clause) : sizeof(struct thrinvage_token);
+}
+
+static size_t lent_size(const struct asked *asked)
+{
+    return asked->call == READ ? 2 * asked->room : asked->room;
+}
+
+static uint32_t put(const struct asked *asked, const struct slice *text, void *lent, void *record)
+{
+    size_t offset = asked->at.offset, line = asked->at.line, column = asked->at.column;
+    switch (asked->call) {
+    case TOKEN: return thrinvage_next_token(text->at, text->size, offset, line, column, record);
+    case NUMBER: return thrinvage_next_number_token(text->at, text->size, offset, line, column, record);
+    case TEXT: return thrinvage_next_token_text(text->at, text->size, offset, line, column, lent, asked->room, record);
+    case READ: return thrinvage_read_clause(text->at, text->size, offset, line, column, lent, asked->room, record);
+    default: return thrinvage_list_clause(text->at, text->size, offset, line, column, lent, asked->room, record);
+    }
+}
+
+static enum place some_place(struct random *random)
+{
+    return only_place < 0 ? (enum place)random_below(random, PLACES) : (enum place)only_place;
+}
+
+static void ask(struct random *random, const struct asked *asked, const struct slice *text, struct given *given)
+{
+    struct slice lent = new_slice(LENT_SLICE, some_place(random), lent_size(asked), (uint8_t)random_next(random));
+    struct slice record = new_slice(RECORD_SLICE, some_place(random), record_size(asked->call), (uint8_t)random_next(random));
+    given->fill = (uint8_t)random_next(random);
+    if (lent.size > 0)
+        memset(lent.at, given->fill, lent.size);
+    memset(record.at, given->fill, record.size);
+    given->number = put(asked, text, lent.at, record.at);
+    must(is_fence_whole(text), "something is written beside the text");
+    must(is_fence_whole(&lent), "something is written beside the lent slice");
+    must(is_fence_whole(&record), "something is written beside the record");
+    if (lent.size > 0)
+        memcpy(given->lent, lent.at, lent.size);
+    memcpy(&given->record, record.at, record.size);
+    free_slice(&lent);
+    free_slice(&record);
+}
+
+/* ---- what must be so of an answer */
+
+static bool is_valid(struct cursor at)
+{
+    return now_text.length <= LONGEST_TEXT && at.offset <= now_text.length && at.line <= at.offset && at.column <= at.offset;
+}
+
+static bool is_untouched(const struct given *given, size_t from, size_t to)
+{
+    for (size_t i = from; i < to; i++)
+        if (given->lent[i] != given->fill)
+            return false;
+    return true;
+}
+
+static struct cursor next_of(const struct given *given)
+{
+    const uint64_t *fields = given->record.fields;
+    return (struct cursor){fields[OFFSET_FIELD], fields[LINE_FIELD], fields[COLUMN_FIELD]};
+}
+
+static struct cursor moved(struct cursor at, size_t offset)
+{
+    for (; at.offset < offset; at.offset++) {
+        bool newline = now_text.bytes[at.offset] == '\n';
+        at.line += newline;
+        at.column = newline ? 0 : at.column + 1;
+    }
+    return at;
+}
+
+static bool is_same_cursor(struct cursor a, struct cursor b)
+{
+    return a.offset == b.offset && a.line == b.line && a.column == b.column;
+}
+
+static void check_refused(const struct asked *asked, const struct given *given)
+{
+    const uint64_t *fields = given->record.fields;
+    uint64_t filled;
+    memset(&filled, given->fill, sizeof filled);
+    must(given->number < REFUSALS, "no such refusal");
+    must(given->number == THRINVAGE_NOT_VALID || is_valid(asked->at), "a text or cursor that is not valid is refused as something else");
+    must(given->number != THRINVAGE_NOT_VALID || !is_valid(asked->at), "a valid text and cursor are refused as not valid");
+    must(fields[REFUSED_AT_FIELD] <= now_text.length, "a refusal points behind the text");
+    must(given->number != THRINVAGE_NOT_VALID || fields[REFUSED_AT_FIELD] == 0, "refusal 8 points elsewhere than at 0");
+    for (size_t i = 0; i < record_size(asked->call) / sizeof *fields; i++)
+        must(i == REFUSED_AT_FIELD || fields[i] == filled, "a refusal writes another field of the record");
+    must(is_untouched(given, 0, lent_size(asked)), "a refusal writes to the lent slice");
+}
+
+static void check_token(const struct asked *asked, const struct thrinvage_token *token)
+{
+    must(token->start >= asked->at.offset && token->start < token->offset, "a token starts outside of what was read");
+    must(token->kind <= THRINVAGE_END, "no such kind");
+    must(token->value_kind <= THRINVAGE_FLOAT, "no such kind of value");
+    must((token->value_kind != THRINVAGE_NOTHING) == (token->kind == THRINVAGE_NUMBER), "numbers have values, and nothing else has");
+    must(token->value_kind != THRINVAGE_NOTHING || token->value == 0, "what has no value has one");
+    must(token->value >> 63 == 0, "a value has its highest bit");
+}
+
+static void check_text(const struct asked *asked, const struct given *given)
+{
+    const struct thrinvage_token_text *text = &given->record.text;
+    must(text->token.kind <= THRINVAGE_STRING, "a token without text has one");
+    must(text->part <= THRINVAGE_SCRATCH, "no such part");
+    if (text->part == THRINVAGE_SOURCE) {
+        must(text->part_start == text->token.start && text->part_end == text->token.offset, "a part of the text is not the token's");
+        must(is_untouched(given, 0, asked->room), "the scratch is written for a part of the text");
+    } else {
+        must(text->part_start == 0 && text->part_end <= asked->room, "a part is not in the scratch");
+        must(is_untouched(given, text->part_end, asked->room), "the scratch is written behind the part");
+    }
+}
+
+/* Each node takes its children from the stack of those before; the root is left. */
+static bool is_tree(const struct given *given, size_t count)
+{
+    size_t stack = 0;
+    for (size_t i = 0; i < count; i++) {
+        uint16_t node[2];
+        memcpy(node, given->lent + 4 * i, sizeof node);
+        size_t kind = node[1] / 1024, children = node[1] % 1024;
+        if (node[0] > MOST_NODES || kind > THRINVAGE_EMPTY_CURLY || children > stack)
+            return false;
+        stack = stack - children + 1;
+    }
+    return stack == 1;
+}
+
+static void check_tree(const struct asked *asked, const struct given *given)
+{
+    size_t count = given->record.clause.count;
+    must(count >= 1 && count <= MOST_NODES && 2 * count <= asked->room, "no such count of nodes");
+    must(is_untouched(given, 4 * count, 2 * asked->room), "the tree is written behind its nodes");
+    must(is_tree(given, count), "the nodes are no tree");
+}
+
+/* Spellings are the text's own: a quoted item that is continued on the next line has its backslash and newline in the line too. */
+static bool is_one_line(const uint8_t *bytes, size_t count)
+{
+    for (size_t i = 0; i < count; i++)
+        if (bytes[i] == '\n' && (i == 0 || bytes[i - 1] != '\\'))
+            return false;
+    return true;
+}
+
+static void check_line(const struct asked *asked, const struct given *given)
+{
+    size_t count = given->record.clause.count;
+    must(count >= 1 && count <= asked->room, "no such count of bytes");
+    must(is_untouched(given, count, asked->room), "the line is written behind its bytes");
+    must(is_one_line(given->lent, count), "a line is more than one");
+}
+
+static void check_read(const struct asked *asked, const struct given *given)
+{
+    struct cursor next = next_of(given);
+    must(is_valid(asked->at), "a text or cursor that is not valid is read");
+    must(given->record.fields[REFUSED_AT_FIELD] == 0, "what is read is refused at somewhere");
+    must(next.offset > asked->at.offset && next.offset <= now_text.length, "the cursor stands still, or behind the text");
+    must(is_same_cursor(next, moved(asked->at, next.offset)), "line or column do not follow the text");
+    if (asked->call <= TEXT)
+        check_token(asked, &given->record.token);
+    if (asked->call == TEXT)
+        check_text(asked, given);
+    else if (asked->call == READ)
+        check_tree(asked, given);
+    else if (asked->call == LIST)
+        check_line(asked, given);
+}
+
+static size_t written_size(const struct asked *asked, const struct given *given)
+{
+    switch (asked->call) {
+    case TEXT: return given->record.text.part == THRINVAGE_SCRATCH ? given->record.text.part_end : 0;
+    case READ: return 4 * given->record.clause.count;
+    case LIST: return given->record.clause.count;
+    default: return 0;
+    }
+}
+
+static bool is_same(const struct asked *asked, const struct given *one, const struct given *other)
+{
+    if (one->number != other->number || one->number != THRINVAGE_READ)
+        return one->number == other->number && one->record.fields[REFUSED_AT_FIELD] == other->record.fields[REFUSED_AT_FIELD];
+    return memcmp(&one->record, &other->record, record_size(asked->call)) == 0 && memcmp(one->lent, other->lent, written_size(asked, one)) == 0;
+}
+
+/* ---- a text: two copies of it, elsewhere each */
+
+struct copies {
+    struct slice one, other;
+};
+
+static struct slice copy(struct random *random, enum role role)
+{
+    struct slice slice = new_slice(role, some_place(random), now_text.length, prolog_byte(random));
+    if (slice.size > 0)
+        memcpy(slice.at, now_text.bytes, slice.size);
+    return slice;
+}
+
+static void check_copy(const struct slice *slice)
+{
+    must(slice->size == 0 || memcmp(slice->at, now_text.bytes, slice->size) == 0, "the text is changed");
+}
+
+/* The second call has another copy of the text, other bytes around all slices and in what is lent: it must answer alike. */
+static void call_twice(struct random *random, const struct copies *copies, enum call call, struct cursor at, size_t room, struct given *given)
+{
+    static struct given again;
+    now_asked = (struct asked){call, at, room};
+    ask(random, &now_asked, &copies->one, given);
+    if (given->number == THRINVAGE_READ)
+        check_read(&now_asked, given);
+    else
+        check_refused(&now_asked, given);
+    ask(random, &now_asked, &copies->other, &again);
+    must(is_same(&now_asked, given, &again), "the same call gives another answer");
+    counts[call][given->number] += 2;
+}
+
+static size_t some_room(struct random *random)
+{
+    static const size_t most[] = {4, 16, 64, 64, 300, 300, 2100, LARGEST_ROOM};
+    return random_below(random, most[random_below(random, sizeof most / sizeof *most)] + 1);
+}
+
+/* The text call reads the token call's token, or refuses it for one of two reasons more. */
+static void check_text_beside_token(const struct given *token, const struct given *text)
+{
+    if (text->number == THRINVAGE_NO_TEXT || text->number == THRINVAGE_NO_ROOM) {
+        must(token->number == THRINVAGE_READ, "the text call refuses a token that the token call does not read");
+        must(text->record.fields[REFUSED_AT_FIELD] == token->record.token.start, "refusals 9 and 12 do not point at the token");
+        return;
+    }
+    must(text->number == token->number, "the text call and the token call do not refuse alike");
+    size_t size = text->number == THRINVAGE_READ ? sizeof(struct thrinvage_token) : 0;
+    must(memcmp(&text->record, &token->record, size) == 0, "the text call and the token call read different tokens");
+    must(size > 0 || text->record.fields[REFUSED_AT_FIELD] == token->record.fields[REFUSED_AT_FIELD], "they refuse at different places");
+}
+
+static void check_line_beside_tree(const struct given *tree, const struct given *line)
+{
+    if (tree->number == THRINVAGE_NO_ROOM || line->number == THRINVAGE_NO_ROOM) {
+        bool both_read = tree->number == THRINVAGE_READ || line->number == THRINVAGE_READ || tree->number == line->number;
+        must(both_read, "list_clause and read_clause do not refuse alike");
+        return;
+    }
+    must(tree->number == line->number, "list_clause and read_clause do not refuse alike");
+    must(tree->record.fields[REFUSED_AT_FIELD] == line->record.fields[REFUSED_AT_FIELD], "list_clause and read_clause refuse at different places");
+    must(tree->number != THRINVAGE_READ || is_same_cursor(next_of(tree), next_of(line)), "list_clause and read_clause end at different places");
+}
+
+static void call_the_others(struct random *random, const struct copies *copies, struct cursor at, const struct given *token)
+{
+    static struct given given, other;
+    call_twice(random, copies, NUMBER, at, 0, &given);
+    call_twice(random, copies, TEXT, at, some_room(random), &given);
+    check_text_beside_token(token, &given);
+    call_twice(random, copies, READ, at, some_room(random), &given);
+    call_twice(random, copies, LIST, at, some_room(random), &other);
+    check_line_beside_tree(&given, &other);
+}
+
+/* Through the whole text by the token call, which must end; the other calls at some of its cursors. */
+static void walk(struct random *random, const struct copies *copies)
+{
+    static struct given token;
+    struct cursor at = {0, 0, 0};
+    size_t others = now_text.length < 400 ? 4 : now_text.length / 50;
+    for (size_t tokens = 0;; tokens++) {
+        must(tokens <= now_text.length, "a text has more tokens than bytes");
+        call_twice(random, copies, TOKEN, at, 0, &token);
+        if (tokens == 0 || random_one_in(random, others))
+            call_the_others(random, copies, at, &token);
+        if (token.number != THRINVAGE_READ)
+            return;
+        at = next_of(&token);
+    }
+}
+
+static size_t some_number(struct random *random)
+{
+    static const size_t far[] = {SIZE_MAX, SIZE_MAX - 1, SIZE_MAX / 2, SIZE_MAX / 2 + 1, (size_t)1 << 32, ((size_t)1 << 32) - 1, 65535, 65536};
+    return random_one_in(random, 3) ? far[random_below(random, sizeof far / sizeof *far)] : random_below(random, now_text.length + 3);
+}
+
+/* True ones, valid ones that are not true, ones that are not valid. */
+static struct cursor some_cursor(struct random *random)
+{
+    struct cursor start = {0, 0, 0};
+    size_t offset = random_below(random, now_text.length + 1);
+    switch (random_below(random, 3)) {
+    case 0: return moved(start, offset);
+    case 1: return (struct cursor){offset, random_below(random, offset + 1), random_below(random, offset + 1)};
+    default: return (struct cursor){random_one_in(random, 2) ? offset : some_number(random), some_number(random), some_number(random)};
+    }
+}
+
+static void jump(struct random *random, const struct copies *copies)
+{
+    static struct given token;
+    for (int more = 3; more > 0; more--) {
+        struct cursor at = some_cursor(random);
+        call_twice(random, copies, TOKEN, at, 0, &token);
+        call_the_others(random, copies, at, &token);
+    }
+}
+
+/* A round is made from the seed and its number alone, so that it can be run again by itself. */
+static void run_round(void)
+{
+    struct random random = {seed * 0x2545f4914f6cdd1du + now_round};
+    make_text(&random, &now_text);
+    struct copies copies = {copy(&random, TEXT_SLICE), copy(&random, OTHER_TEXT_SLICE)};
+    walk(&random, &copies);
+    jump(&random, &copies);
+    check_copy(&copies.one);
+    check_copy(&copies.other);
+    free_slice(&copies.one);
+    free_slice(&copies.other);
+}
+
+/* ---- the run */
+
+/* The number of calls; a run without any shows nothing. */
+static uint64_t show_counts(void)
+{
+    uint64_t sum = 0;
+    printf("%-18s %12s", "call", "read");
+    for (int number = 1; number < REFUSALS; number++)
+        printf(" %9s %d", "refused", number);
+    printf("\n");
+    for (int call = 0; call < CALLS; call++) {
+        printf("%-18s %12llu", call_names[call], (unsigned long long)counts[call][0]);
+        for (int number = 1; number < REFUSALS; number++)
+            printf(" %*llu", number < 10 ? 11 : 12, (unsigned long long)counts[call][number]);
+        printf("\n");
+        for (int number = 0; number < REFUSALS; number++)
+            sum += counts[call][number];
+    }
+    printf("%llu calls in %llu rounds, seed %llu, 0 faults\n", (unsigned long long)sum, (unsigned long long)now_round, (unsigned long long)seed);
+    return sum;
+}
+
+static double seconds_now(void)
+{
+    struct timespec now;
+    clock_gettime(CLOCK_MONOTONIC, &now);
+    return (double)now.tv_sec + (double)now.tv_nsec / 1e9;
+}
+
+static void usage(void)
+{
+    fprintf(stderr, "usage: fuzz [--seconds N] [--seed N] [--round N] [--place N] FILE..\n");
+    exit(2);
+}
+
+int main(int argc, char **argv)
+{
+    double seconds = 600;
+    long long only_round = -1;
+    seed = 1;
+    for (int i = 1; i < argc; i++) {
+        bool more = i + 1 < argc;
+        if (strncmp(argv[i], "--", 2) != 0)
+            read_file(argv[i]);
+        else if (!more)
+            usage();
+        else if (strcmp(argv[i], "--seconds") == 0)
+            seconds = atof(argv[++i]);
+        else if (strcmp(argv[i], "--seed") == 0)
+            seed = strtoull(argv[++i], NULL, 10);
+        else if (strcmp(argv[i], "--round") == 0)
+            only_round = atoll(argv[++i]);
+        else if (strcmp(argv[i], "--place") == 0)
+            only_place = atoi(argv[++i]);
+        else
+            usage();
+    }
+    map_pages();
+    __sanitizer_set_death_callback(show_case);
+    if (only_round >= 0) {
+        now_round = (uint64_t)only_round;
+        run_round();
+    }
+    for (double end = seconds_now() + seconds; only_round < 0 && seconds_now() < end; now_round++)
+        run_round();
+    return show_counts() > 0 ? 0 : 2;
+}
