@@ -9,7 +9,9 @@ pub mod Numbers
 pub mod Promises
 pub mod QuotedItems
 pub mod Refusals
+pub mod Runs
 pub mod Scans
+pub mod Sets
 pub mod Spans
 pub mod Specimens
 pub mod Spellings

@@ -1,8 +1,8 @@
 -- A rule that one computed test finds at each entry of a table holds at any place of it. Assumes nothing.
-use mathlib.Core.Path.{_∙_, subst, sym}
-use mathlib.Core.Bool.{Bool, true, false}
+use mathlib.Core.Path.{_≡_, refl, _∙_, subst, sym}
+use mathlib.Core.Bool.{Bool, true, false, not}
 use mathlib.Core.List.{List, [], _∷_}
-use Prim.Native.Nat.{ℕ, zero, suc, _+_, _<_}
+use Prim.Native.Nat.{ℕ, zero, suc, _+_, _<_, zero-le, suc-le-suc}
 use native.Mathlib.Nat.{add-zero, zero-add, add-suc, suc-add, le-of-suc-le-suc, not-suc-le-zero}
 use lib.Dec.{T}
 use lib.ListN.{length, getD}
@@ -34,3 +34,30 @@ module _ {A : Type 0} (d : A) (f : ℕ → A → Bool) where
 
   pub at : (xs : List A) → T (every 0 xs) → (k : ℕ) → k < length xs → T (f k (getD xs k d))
   at xs t k h = subst (λ (m : ℕ). T (f m (getD xs k d))) (zero-add k) (from xs 0 t k h)
+
+-- ---- two tests that agree on the first n numbers
+abbrev pub alike : Bool → Bool → Bool
+alike true b = b
+alike false b = not b
+
+alike-same : (a b : Bool) → T (alike a b) → a ≡ b
+alike-same true true t = refl
+alike-same true false t = absurd t
+alike-same false true t = absurd t
+alike-same false false t = refl
+
+abbrev pub blanks : ℕ → List ℕ
+blanks zero = []
+blanks (suc n) = 0 ∷ blanks n
+
+blanks-length : (n k : ℕ) → k < n → k < length (blanks n)
+blanks-length zero k h = absurd (not-suc-le-zero h)
+blanks-length (suc n) zero h = suc-le-suc zero-le
+blanks-length (suc n) (suc k) h = suc-le-suc (blanks-length n k (le-of-suc-le-suc h))
+
+-- one computed test finds that they agree
+abbrev pub agree : (ℕ → Bool) → (ℕ → Bool) → ℕ → Bool
+agree f g n = every 0 (λ i x. alike (f i) (g i)) 0 (blanks n)
+
+pub agreed : (f g : ℕ → Bool) (n : ℕ) → T (agree f g n) → (k : ℕ) → k < n → f k ≡ g k
+agreed f g n t k h = alike-same (f k) (g k) (at 0 (λ i x. alike (f i) (g i)) (blanks n) t k (blanks-length n k h))

@@ -41,6 +41,17 @@ runToken k (Refused w) = Plain.Refused w
 abbrev pub variableToken : List ℕ → ℕ → Plain
 variableToken s at = runToken Variable (alphanumerics s (at + 1))
 
+-- 6.4.2: a graphic token, whose first character is at `at`
+abbrev pub graphicToken : List ℕ → ℕ → Plain
+graphicToken s at = runToken Name (graphics s (at + 1))
+
+-- 6.4.2: the name that is the solo character x, from `at` to e
+abbrev pub soloName : ℕ → ℕ → ℕ → Plain
+soloName at e x =
+    cond (eqb x cut) (Plain.Whole Name Nothing e)
+    (cond (eqb x semicolon) (Plain.Whole Name Nothing e)
+    (Plain.Refused (fault NoToken at)))
+
 -- 6.4.2: name token that begins with x, at `at`, and is not quoted: letter digit token, graphic token, cut or semicolon
 unfoldable pub nameToken : List ℕ → ℕ → ℕ → Plain
 nameToken s at x =

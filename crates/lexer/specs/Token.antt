@@ -219,6 +219,11 @@ pub record AtDigit (s : List ℕ) (at : ℕ) : Type 0 where
   pub at-digit : At s at digit
   pub decimal : isDigit 10 digit ≡ true
 
+-- a solo character x, at an offset before n
+pub record AtSolo (n at x : ℕ) : Type 0 where
+  pub inside : at < n
+  pub solo : is soloChar x ≡ true
+
 -- a valid cursor at the byte x
 pub record Begins (s : List ℕ) (c : Cursor) (x : ℕ) : Type 0 where
   pub valid : Valid (length s) c

@@ -1,6 +1,5 @@
 // What stands at an offset of a text.
-use crate::classes::FOREIGN;
-use crate::classes::class;
+use crate::classes::is_foreign;
 use crate::refusal::Fault;
 use crate::refusal::Refusal;
 ghost use mathlib.Core.Path.{_≡_};
@@ -20,7 +19,7 @@ pub(crate) fn peek_char(text: &[u8], at: usize) -> Peek
         return Peek::End;
     }
     let b = text[at];
-    if class(b) == FOREIGN {
+    if is_foreign(b) {
         return Peek::Foreign;
     }
     Peek::Byte(b)

@@ -1,287 +1,87 @@
-// The classes of bytes, by a table.
+// The classes of bytes: of each, the set of its members, as bits of two words.
 ghost use mathlib.Core.Path.{_≡_};
-ghost use Rattle.lexer.specs.Chars.{classOf};
+ghost use Rattle.lexer.specs.Chars.{classOf, is, within, member, smallLetter, capitalLetter, underscoreChar, decimalDigit, graphicTokenChar, layoutChar, soloChar, quoteChar, foreignByte};
 
-// The classes, so numbered that the alphanumeric ones are those up to DIGIT.
-pub const SMALL: u8 = 0;
+const WORD: u8 = 64;
 
-pub const CAPITAL: u8 = 1;
+const TWO_WORDS: u8 = 128;
 
-pub const UNDERSCORE: u8 = 2;
-
-pub const DIGIT: u8 = 3;
-
-pub const GRAPHIC: u8 = 4;
-
-pub const LAYOUT: u8 = 5;
-
-pub const SOLO: u8 = 6;
-
-pub const QUOTE: u8 = 7;
-
-pub const FOREIGN: u8 = 8;
-
-pub(crate) fn class(b: u8) -> u8
-    ensures { λ r. ⌜ r ≡ classOf b ⌝ }
+// Whether a byte is in a set: `low` has a bit for each member below WORD, and `high` for each from there to TWO_WORDS. The
+// words stay in registers, where a table would be built anew on the stack at each use.
+fn is_in(low: u64, high: u64, b: u8) -> bool
+    ensures { λ r. ⌜ r ≡ member low high b ⌝ }
 {
-    CLASSES[b as usize]
+    if b < WORD {
+        return (low >> b) % 2 == 1;
+    }
+    if b < TWO_WORDS {
+        return (high >> (b - WORD)) % 2 == 1;
+    }
+    false
 }
 
-const CLASSES: [u8; 256] = [
-    FOREIGN,
-    FOREIGN,
-    FOREIGN,
-    FOREIGN,
-    FOREIGN,
-    FOREIGN,
-    FOREIGN,
-    FOREIGN,
-    FOREIGN,
-    LAYOUT,
-    LAYOUT,
-    FOREIGN,
-    FOREIGN,
-    FOREIGN,
-    FOREIGN,
-    FOREIGN,
-    FOREIGN,
-    FOREIGN,
-    FOREIGN,
-    FOREIGN,
-    FOREIGN,
-    FOREIGN,
-    FOREIGN,
-    FOREIGN,
-    FOREIGN,
-    FOREIGN,
-    FOREIGN,
-    FOREIGN,
-    FOREIGN,
-    FOREIGN,
-    FOREIGN,
-    FOREIGN,
-    LAYOUT,
-    SOLO,
-    QUOTE,
-    GRAPHIC,
-    GRAPHIC,
-    SOLO,
-    GRAPHIC,
-    QUOTE,
-    SOLO,
-    SOLO,
-    GRAPHIC,
-    GRAPHIC,
-    SOLO,
-    GRAPHIC,
-    GRAPHIC,
-    GRAPHIC,
-    DIGIT,
-    DIGIT,
-    DIGIT,
-    DIGIT,
-    DIGIT,
-    DIGIT,
-    DIGIT,
-    DIGIT,
-    DIGIT,
-    DIGIT,
-    GRAPHIC,
-    SOLO,
-    GRAPHIC,
-    GRAPHIC,
-    GRAPHIC,
-    GRAPHIC,
-    GRAPHIC,
-    CAPITAL,
-    CAPITAL,
-    CAPITAL,
-    CAPITAL,
-    CAPITAL,
-    CAPITAL,
-    CAPITAL,
-    CAPITAL,
-    CAPITAL,
-    CAPITAL,
-    CAPITAL,
-    CAPITAL,
-    CAPITAL,
-    CAPITAL,
-    CAPITAL,
-    CAPITAL,
-    CAPITAL,
-    CAPITAL,
-    CAPITAL,
-    CAPITAL,
-    CAPITAL,
-    CAPITAL,
-    CAPITAL,
-    CAPITAL,
-    CAPITAL,
-    CAPITAL,
-    SOLO,
-    GRAPHIC,
-    SOLO,
-    GRAPHIC,
-    UNDERSCORE,
-    QUOTE,
-    SMALL,
-    SMALL,
-    SMALL,
-    SMALL,
-    SMALL,
-    SMALL,
-    SMALL,
-    SMALL,
-    SMALL,
-    SMALL,
-    SMALL,
-    SMALL,
-    SMALL,
-    SMALL,
-    SMALL,
-    SMALL,
-    SMALL,
-    SMALL,
-    SMALL,
-    SMALL,
-    SMALL,
-    SMALL,
-    SMALL,
-    SMALL,
-    SMALL,
-    SMALL,
-    SOLO,
-    SOLO,
-    SOLO,
-    GRAPHIC,
-    FOREIGN,
-    FOREIGN,
-    FOREIGN,
-    FOREIGN,
-    FOREIGN,
-    FOREIGN,
-    FOREIGN,
-    FOREIGN,
-    FOREIGN,
-    FOREIGN,
-    FOREIGN,
-    FOREIGN,
-    FOREIGN,
-    FOREIGN,
-    FOREIGN,
-    FOREIGN,
-    FOREIGN,
-    FOREIGN,
-    FOREIGN,
-    FOREIGN,
-    FOREIGN,
-    FOREIGN,
-    FOREIGN,
-    FOREIGN,
-    FOREIGN,
-    FOREIGN,
-    FOREIGN,
-    FOREIGN,
-    FOREIGN,
-    FOREIGN,
-    FOREIGN,
-    FOREIGN,
-    FOREIGN,
-    FOREIGN,
-    FOREIGN,
-    FOREIGN,
-    FOREIGN,
-    FOREIGN,
-    FOREIGN,
-    FOREIGN,
-    FOREIGN,
-    FOREIGN,
-    FOREIGN,
-    FOREIGN,
-    FOREIGN,
-    FOREIGN,
-    FOREIGN,
-    FOREIGN,
-    FOREIGN,
-    FOREIGN,
-    FOREIGN,
-    FOREIGN,
-    FOREIGN,
-    FOREIGN,
-    FOREIGN,
-    FOREIGN,
-    FOREIGN,
-    FOREIGN,
-    FOREIGN,
-    FOREIGN,
-    FOREIGN,
-    FOREIGN,
-    FOREIGN,
-    FOREIGN,
-    FOREIGN,
-    FOREIGN,
-    FOREIGN,
-    FOREIGN,
-    FOREIGN,
-    FOREIGN,
-    FOREIGN,
-    FOREIGN,
-    FOREIGN,
-    FOREIGN,
-    FOREIGN,
-    FOREIGN,
-    FOREIGN,
-    FOREIGN,
-    FOREIGN,
-    FOREIGN,
-    FOREIGN,
-    FOREIGN,
-    FOREIGN,
-    FOREIGN,
-    FOREIGN,
-    FOREIGN,
-    FOREIGN,
-    FOREIGN,
-    FOREIGN,
-    FOREIGN,
-    FOREIGN,
-    FOREIGN,
-    FOREIGN,
-    FOREIGN,
-    FOREIGN,
-    FOREIGN,
-    FOREIGN,
-    FOREIGN,
-    FOREIGN,
-    FOREIGN,
-    FOREIGN,
-    FOREIGN,
-    FOREIGN,
-    FOREIGN,
-    FOREIGN,
-    FOREIGN,
-    FOREIGN,
-    FOREIGN,
-    FOREIGN,
-    FOREIGN,
-    FOREIGN,
-    FOREIGN,
-    FOREIGN,
-    FOREIGN,
-    FOREIGN,
-    FOREIGN,
-    FOREIGN,
-    FOREIGN,
-    FOREIGN,
-    FOREIGN,
-    FOREIGN,
-    FOREIGN,
-    FOREIGN,
-    FOREIGN,
-    FOREIGN,
-    FOREIGN,
-    FOREIGN,
-    FOREIGN,
-    FOREIGN,
-];
+pub(crate) fn is_small(b: u8) -> bool
+    ensures { λ r. ⌜ r ≡ is smallLetter b ⌝ }
+{
+    is_in(0x0, 0x7fffffe00000000, b)
+}
+
+pub(crate) fn is_capital(b: u8) -> bool
+    ensures { λ r. ⌜ r ≡ is capitalLetter b ⌝ }
+{
+    is_in(0x0, 0x7fffffe, b)
+}
+
+pub(crate) fn is_underscore(b: u8) -> bool
+    ensures { λ r. ⌜ r ≡ is underscoreChar b ⌝ }
+{
+    is_in(0x0, 0x80000000, b)
+}
+
+pub(crate) fn is_digit(b: u8) -> bool
+    ensures { λ r. ⌜ r ≡ is decimalDigit b ⌝ }
+{
+    is_in(0x3ff000000000000, 0x0, b)
+}
+
+// A letter, a digit or the underscore.
+pub(crate) fn is_alphanumeric(b: u8) -> bool
+    ensures { λ r. ⌜ r ≡ within smallLetter decimalDigit (classOf b) ⌝ }
+{
+    is_in(0x3ff000000000000, 0x7fffffe87fffffe, b)
+}
+
+// # $ & * + - . / : < = > ? @ ^ ~ \
+pub(crate) fn is_graphic(b: u8) -> bool
+    ensures { λ r. ⌜ r ≡ is graphicTokenChar b ⌝ }
+{
+    is_in(0xf400ec5800000000, 0x4000000050000001, b)
+}
+
+// Tab, newline and space.
+pub(crate) fn is_layout(b: u8) -> bool
+    ensures { λ r. ⌜ r ≡ is layoutChar b ⌝ }
+{
+    is_in(0x100000600, 0x0, b)
+}
+
+// ! ( ) , ; [ ] { } | %
+pub(crate) fn is_solo(b: u8) -> bool
+    ensures { λ r. ⌜ r ≡ is soloChar b ⌝ }
+{
+    is_in(0x800132200000000, 0x3800000028000000, b)
+}
+
+// ' " `
+pub(crate) fn is_quote(b: u8) -> bool
+    ensures { λ r. ⌜ r ≡ is quoteChar b ⌝ }
+{
+    is_in(0x8400000000, 0x100000000, b)
+}
+
+// In no class of ISO's: neither layout nor a printable byte.
+pub(crate) fn is_foreign(b: u8) -> bool
+    ensures { λ r. ⌜ r ≡ is foreignByte b ⌝ }
+{
+    !is_in(0xffffffff00000600, 0x7fffffffffffffff, b)
+}

@@ -3,8 +3,7 @@ use crate::chars::Look;
 use crate::chars::Peek;
 use crate::chars::lookahead_char;
 use crate::chars::peek_char;
-use crate::classes::LAYOUT;
-use crate::classes::class;
+use crate::classes::is_layout;
 use crate::cursor::Cursor;
 use crate::cursor::Moved;
 use crate::cursor::skip_along;
@@ -140,7 +139,7 @@ fn consume_layout(text: &[u8], cursor: Cursor) -> Moved
     match lookahead_char(text, at) {
         Look::Refused(fault) => Moved::Refused(fault),
         Look::Byte(b) => {
-            if class(b) == LAYOUT {
+            if is_layout(b) {
                 return Moved::To(skip_char(cursor, b));
             }
             match b {

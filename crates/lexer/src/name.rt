@@ -1,9 +1,8 @@
 // Names and variables that are not quoted.
-use crate::classes::DIGIT;
-use crate::classes::FOREIGN;
-use crate::classes::GRAPHIC;
-use crate::classes::SMALL;
-use crate::classes::class;
+use crate::classes::is_alphanumeric;
+use crate::classes::is_foreign;
+use crate::classes::is_graphic;
+use crate::classes::is_small;
 use crate::cursor::Scan;
 use crate::kind::Kind;
 use crate::kind::Plain;
@@ -12,39 +11,58 @@ use crate::refusal::Fault;
 use crate::refusal::Refusal;
 ghost use mathlib.Core.Path.{_≡_};
 ghost use Prim.Native.Nat.{_<_};
-ghost use lib.ListN.{length, drop};
+ghost use lib.ListN.{length};
+ghost use Rattle.lexer.specs.Chars.{classOf};
 ghost use Rattle.lexer.specs.declared.kind.Kind.the-variants.{Name};
 ghost use Rattle.lexer.specs.declared.kind.Value.the-variants.{Nothing};
 ghost use Rattle.lexer.specs.declared.kind.Plain.{Plain};
-ghost use Rattle.lexer.specs.Name.{runStop, runEnd, runToken, variableToken, nameToken};
+ghost use Rattle.lexer.specs.Name.{runStop, runToken, alphanumerics, graphics, graphicToken, soloName, variableToken, nameToken};
 
-// A run stops before a byte of class `k`, unless that is foreign.
-fn run_stop(at: usize, k: u8) -> Scan
-    ensures { λ r. ⌜ r ≡ runStop at k ⌝ }
+// A run stops before the byte `b`, unless that is foreign.
+fn run_stop(at: usize, b: u8) -> Scan
+    ensures { λ r. ⌜ r ≡ runStop at (classOf b) ⌝ }
 {
-    if k == FOREIGN {
-        return Scan::Refused(Fault {
+    if is_foreign(b) {
+        Scan::Refused(Fault {
             refusal: Refusal::ForeignByte,
             offset: at,
-        });
+        })
+    } else {
+        Scan::Stop(at)
     }
-    Scan::Stop(at)
 }
 
-// Where the bytes end whose classes are from `lo` to `hi`.
-fn run_end(text: &[u8], from: usize, lo: u8, hi: u8) -> Scan
-    ensures { λ r. ⌜ r ≡ runEnd lo hi from (drop from (now (text .entry))) ⌝ }
+// Where the letters, digits and underscores end.
+fn alphanumeric_end(text: &[u8], from: usize) -> Scan
+    ensures { λ r. ⌜ r ≡ alphanumerics (now (text .entry)) from ⌝ }
 {
     let mut at = from;
     while at < text.len() {
-        let k = class(text[at]);
-        if k < lo {
-            return run_stop(at, k);
+        let b = text[at];
+        if is_alphanumeric(b) {
+            at += 1;
+        } else {
+            return run_stop(at, b);
         }
-        if hi < k {
-            return run_stop(at, k);
+    }
+    Scan::Refused(Fault {
+        refusal: Refusal::EndOfText,
+        offset: at,
+    })
+}
+
+// Where the graphic characters end.
+fn graphic_end(text: &[u8], from: usize) -> Scan
+    ensures { λ r. ⌜ r ≡ graphics (now (text .entry)) from ⌝ }
+{
+    let mut at = from;
+    while at < text.len() {
+        let b = text[at];
+        if is_graphic(b) {
+            at += 1;
+        } else {
+            return run_stop(at, b);
         }
-        at += 1;
     }
     Scan::Refused(Fault {
         refusal: Refusal::EndOfText,
@@ -70,7 +88,7 @@ pub(crate) fn variable_token(text: &[u8], at: usize) -> Plain
     requires { ⌜ at < length (now text) ⌝ }
     ensures { λ r. ⌜ r ≡ variableToken (now (text .entry)) at ⌝ }
 {
-    run_token(Kind::Variable, run_end(text, at + 1, SMALL, DIGIT))
+    run_token(Kind::Variable, alphanumeric_end(text, at + 1))
 }
 
 // A name of one character, which ends at `end`.
@@ -84,25 +102,39 @@ fn single_name(end: usize) -> Plain
     }
 }
 
+pub(crate) fn graphic_token(text: &[u8], at: usize) -> Plain
+    requires { ⌜ at < length (now text) ⌝ }
+    ensures { λ r. ⌜ r ≡ graphicToken (now (text .entry)) at ⌝ }
+{
+    run_token(Kind::Name, graphic_end(text, at + 1))
+}
+
+// The name that the solo character `b` is, from `at` to `end`, if it is one.
+pub(crate) fn solo_name(at: usize, end: usize, b: u8) -> Plain
+    ensures { λ r. ⌜ r ≡ soloName at end b ⌝ }
+{
+    if b == b'!' {
+        single_name(end)
+    } else if b == b';' {
+        single_name(end)
+    } else {
+        Plain::Refused(Fault {
+            refusal: Refusal::NoToken,
+            offset: at,
+        })
+    }
+}
+
 // The name that begins with `b`, at `at`.
 pub(crate) fn name_token(text: &[u8], at: usize, b: u8) -> Plain
     requires { ⌜ at < length (now text) ⌝ }
     ensures { λ r. ⌜ r ≡ nameToken (now (text .entry)) at b ⌝ }
 {
-    match class(b) {
-        SMALL => run_token(Kind::Name, run_end(text, at + 1, SMALL, DIGIT)),
-        GRAPHIC => run_token(Kind::Name, run_end(text, at + 1, GRAPHIC, GRAPHIC)),
-        _ => {
-            if b == b'!' {
-                return single_name(at + 1);
-            }
-            if b == b';' {
-                return single_name(at + 1);
-            }
-            Plain::Refused(Fault {
-                refusal: Refusal::NoToken,
-                offset: at,
-            })
-        }
+    if is_small(b) {
+        run_token(Kind::Name, alphanumeric_end(text, at + 1))
+    } else if is_graphic(b) {
+        graphic_token(text, at)
+    } else {
+        solo_name(at, at + 1, b)
     }
 }

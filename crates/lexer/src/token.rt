@@ -3,13 +3,12 @@ use crate::chars::Look;
 use crate::chars::Peek;
 use crate::chars::lookahead_char;
 use crate::chars::peek_char;
-use crate::classes::CAPITAL;
-use crate::classes::DIGIT;
-use crate::classes::LAYOUT;
-use crate::classes::QUOTE;
-use crate::classes::SOLO;
-use crate::classes::UNDERSCORE;
-use crate::classes::class;
+use crate::classes::is_capital;
+use crate::classes::is_digit;
+use crate::classes::is_layout;
+use crate::classes::is_quote;
+use crate::classes::is_solo;
+use crate::classes::is_underscore;
 use crate::cursor::Cursor;
 use crate::cursor::Moved;
 use crate::cursor::is_valid;
@@ -22,7 +21,9 @@ use crate::kind::Kind;
 use crate::kind::Plain;
 use crate::kind::Value;
 use crate::layout::scan_for_layout;
+use crate::name::graphic_token;
 use crate::name::name_token;
+use crate::name::solo_name;
 use crate::name::variable_token;
 use crate::number::NumberToken;
 use crate::number::Numeral;
@@ -44,7 +45,7 @@ ghost use Rattle.lexer.specs.declared.kind.Value.{Value};
 ghost use Rattle.lexer.specs.Number.{numberToken};
 ghost use Rattle.lexer.specs.Quoted.{decode};
 ghost use Rattle.lexer.specs.Look.{lookahead};
-ghost use Rattle.lexer.specs.Token.{mark, barToken, endToken, soloToken, valued, numbered, plainToken, plainNumber, plain, textOf, kept, plainLexeme, quotedTo, quotedLexeme, lexemeTo, readLexeme, answered, notValid, call, nextToken, nextNumberToken, found, At, AtDigit, Begins, Passing};
+ghost use Rattle.lexer.specs.Token.{mark, barToken, endToken, soloToken, valued, numbered, plainToken, plainNumber, plain, textOf, kept, plainLexeme, quotedTo, quotedLexeme, lexemeTo, readLexeme, answered, notValid, call, nextToken, nextNumberToken, found, At, AtDigit, AtSolo, Begins, Passing};
 
 // A token, whose span ends where the cursor behind it stands.
 pub struct Token {
@@ -105,9 +106,10 @@ fn bar_token(text: &[u8], at: usize) -> Plain
         Look::Refused(fault) => Plain::Refused(fault),
         Look::Byte(b) => {
             if b == b'|' {
-                return whole(Kind::DoubleBar, at + 2);
+                whole(Kind::DoubleBar, at + 2)
+            } else {
+                whole(Kind::HeadTailSeparator, next)
             }
-            whole(Kind::HeadTailSeparator, next)
         }
     }
 }
@@ -126,31 +128,31 @@ fn end_token(text: &[u8], at: usize) -> Plain
         }),
         Peek::Byte(b) => {
             if b == b'\n' {
-                return whole(Kind::End, at + 2);
+                whole(Kind::End, at + 2)
+            } else if is_layout(b) {
+                whole(Kind::End, next)
+            } else if b == b'%' {
+                whole(Kind::End, next)
+            } else {
+                graphic_token(text, at)
             }
-            if class(b) == LAYOUT {
-                return whole(Kind::End, next);
-            }
-            if b == b'%' {
-                return whole(Kind::End, next);
-            }
-            name_token(text, at, b'.')
         }
     }
 }
 
 // The token that begins with the solo character `b`.
 fn solo_token(text: &[u8], at: usize, b: u8, layout: bool) -> Plain
-    requires { ⌜ at < length (now text) ⌝ }
+    requires { ⌜ AtSolo (length (now text)) at b ⌝ }
     ensures { λ r. ⌜ r ≡ soloToken (now (text .entry)) at layout b ⌝ }
 {
     match mark_of(b, layout) {
         Mark::Is(kind) => whole(kind, at + 1),
         Mark::Other => {
             if b == b'|' {
-                return bar_token(text, at);
+                bar_token(text, at)
+            } else {
+                solo_name(at, at + 1, b)
             }
-            name_token(text, at, b)
         }
     }
 }
@@ -220,17 +222,18 @@ fn plain_token(text: &[u8], at: usize, layout: bool, b: u8) -> Plain
     requires { ⌜ At (now text) at b ⌝ }
     ensures { λ r. ⌜ r ≡ plainToken (now (text .entry)) at layout b ⌝ }
 {
-    match class(b) {
-        DIGIT => whole_number(text, at, false),
-        SOLO => solo_token(text, at, b, layout),
-        CAPITAL => variable_token(text, at),
-        UNDERSCORE => variable_token(text, at),
-        _ => {
-            if b == b'.' {
-                return end_token(text, at);
-            }
-            name_token(text, at, b)
-        }
+    if is_digit(b) {
+        whole_number(text, at, false)
+    } else if is_solo(b) {
+        solo_token(text, at, b, layout)
+    } else if is_capital(b) {
+        variable_token(text, at)
+    } else if is_underscore(b) {
+        variable_token(text, at)
+    } else if b == b'.' {
+        end_token(text, at)
+    } else {
+        name_token(text, at, b)
     }
 }
 
@@ -239,7 +242,7 @@ fn plain_number(text: &[u8], at: usize, b: u8) -> Plain
     requires { ⌜ At (now text) at b ⌝ }
     ensures { λ r. ⌜ r ≡ plainNumber (now (text .entry)) at b ⌝ }
 {
-    if class(b) == DIGIT {
+    if is_digit(b) {
         return whole_number(text, at, true);
     }
     name_token(text, at, b)
@@ -251,9 +254,10 @@ fn plain_read(text: &[u8], at: usize, layout: bool, field: bool, b: u8) -> Plain
     ensures { λ r. ⌜ r ≡ plain field (now (text .entry)) at layout b ⌝ }
 {
     if field {
-        return plain_number(text, at, b);
+        plain_number(text, at, b)
+    } else {
+        plain_token(text, at, layout, b)
     }
-    plain_token(text, at, layout, b)
 }
 
 // What a token's text is: its own bytes, so many decoded ones, or none.
@@ -379,10 +383,11 @@ fn token_at(text: &[u8], c: Cursor, layout: bool, field: bool) -> Found
     match lookahead_char(text, at) {
         Look::Refused(fault) => Found::Refused(fault),
         Look::Byte(b) => {
-            if class(b) == QUOTE {
-                return quoted_found(text, c, field, b);
+            if is_quote(b) {
+                quoted_found(text, c, field, b)
+            } else {
+                plain_found(text, c, layout, field, b)
             }
-            plain_found(text, c, layout, field, b)
         }
     }
 }
@@ -418,11 +423,12 @@ fn answer_in(text: &[u8], cursor: Cursor, field: bool) -> Answer
     ensures { λ r. ⌜ r ≡ call field (now (text .entry)) cursor ⌝ }
 {
     if is_valid(text.len(), cursor) {
-        return answer_at(text, cursor, field);
-    }
-    Answer::Refused {
-        fault: not_valid(),
-        cursor,
+        answer_at(text, cursor, field)
+    } else {
+        Answer::Refused {
+            fault: not_valid(),
+            cursor,
+        }
     }
 }
 

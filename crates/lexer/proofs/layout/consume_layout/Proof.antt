@@ -1,12 +1,13 @@
 -- `lexer::layout::consume_layout` meets its contract. Assumes nothing.
 use Prim.Native.Nat.{ℕ, _+_, _<_}
 use mathlib.Core.Path.{_≡_, refl, sym, _∙_, ap}
+use mathlib.Core.Bool.{Bool, true, false}
 use mathlib.Core.List.{List}
 use native.Mathlib.Omega.{arith}
 use borrow.Author.Needs.{needs}
 use borrow.Author.Tests.{ne-eqb}
 use lib.ListN.{length}
-use Rattle.lexer.specs.Chars.{classOf, layoutChar, percent, slash}
+use Rattle.lexer.specs.Chars.{is, layoutChar, percent, slash}
 use Rattle.lexer.specs.Cursor.{step, Valid, Movable}
 use Rattle.lexer.specs.Layout.{singleLineComment, slashed, layoutTextOf, layoutText, moved, Slash}
 use Rattle.lexer.specs.Look.{lookahead}
@@ -41,30 +42,30 @@ module _ (s : List ℕ) (c : Cursor) (r : Look) (e : r ≡ lookahead s (c .offse
       at-slash : b ≡ slash → Slash s c
       at-slash n = record { valid = v; slash-there = sym e ∙ q ∙ ap Look.Byte n }
 
-    module _ (k : ℕ) (g : k ≡ classOf b) where
-      blank : (d : Cursor) → k ≡ layoutChar → d ≡ step c b → Moved.To d ≡ moved s c (layoutText s (c .offset))
+    module _ (t : Bool) (g : t ≡ is layoutChar b) where
+      blank : (d : Cursor) → t ≡ true → d ≡ step c b → Moved.To d ≡ moved s c (layoutText s (c .offset))
       unfolding layoutTextOf moved
       blank d n m =
           let l = seen in
           cc (move-step s c (c .offset + 1) (omega arith) (omega (arith, l .inside)), move-here s (step c b))
 
-      module _ (n : k ≡ layoutChar → ⊥) where
+      module _ (n : t ≡ false) where
         line : (d : Cursor) (z : Moved) → b ≡ percent → d ≡ step c b → z ≡ moved s d (singleLineComment s (d .offset)) → z ≡ moved s c (layoutText s (c .offset))
         unfolding layoutTextOf
         line d z p m f =
             let l = seen in
-            let t : layoutText s (c .offset) ≡ singleLineComment s (c .offset + 1) = cc (ne-eqb k layoutChar n) in
-            let u = moved-step s c (l .inside) (singleLineComment s (c .offset + 1)) (line-ends s (c .offset + 1) (omega (arith, l .inside))) in
+            let u : layoutText s (c .offset) ≡ singleLineComment s (c .offset + 1) = cc in
+            let v = moved-step s c (l .inside) (singleLineComment s (c .offset + 1)) (line-ends s (c .offset + 1) (omega (arith, l .inside))) in
             f ∙ ap (λ (x : Cursor). moved s x (singleLineComment s (x .offset))) m
-            ∙ ap (λ (x : ℕ). moved s (step c x) (singleLineComment s (c .offset + 1))) (sym (l .it)) ∙ sym u ∙ ap (moved s c) (sym t)
+            ∙ ap (λ (x : ℕ). moved s (step c x) (singleLineComment s (c .offset + 1))) (sym (l .it)) ∙ sym v ∙ ap (moved s c) (sym u)
 
         comment : (z : Moved) → b ≡ slash → z ≡ moved s c (slashed s (c .offset) (lookahead s (c .offset + 1))) → z ≡ moved s c (layoutText s (c .offset))
         unfolding layoutTextOf
-        comment z p f = cc (ne-eqb k layoutChar n)
+        comment z p f = cc
 
         none : (b ≡ percent → ⊥) → (b ≡ slash → ⊥) → Moved.To c ≡ moved s c (layoutText s (c .offset))
         unfolding layoutTextOf moved
-        none o p = cc (ne-eqb k layoutChar n, ne-eqb b percent o, ne-eqb b slash p, move-here s c)
+        none o p = cc (ne-eqb b percent o, ne-eqb b slash p, move-here s c)
 
 ruleset ways = (refused, can-skip, in-comment, at-slash, blank, line, comment, none, needs)
 
@@ -78,8 +79,8 @@ enum-known-fault c = search ways
 enum-known-b : tie.Need-enum-known-b
 enum-known-b c = search ways
 
-class-requires : tie.Need-class-requires
-class-requires c κs = search ways
+is-layout-requires : tie.Need-is-layout-requires
+is-layout-requires c κs = search ways
 
 skip-char-requires : tie.Need-skip-char-requires
 skip-char-requires c κs = search ways
@@ -115,7 +116,7 @@ consume-layout-spec =
     lookahead-char-requires
     enum-known-fault
     enum-known-b
-    class-requires
+    is-layout-requires
     skip-char-requires
     returns
     skip-char-requires-2

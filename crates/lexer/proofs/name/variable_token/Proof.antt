@@ -16,11 +16,11 @@ read s at r p e f = cc
 ruleset ways = (read, needs)
 
 -- answers
-add-run-end : tie.Need-add-run-end
-add-run-end c = search ways
+add-alphanumeric-end : tie.Need-add-alphanumeric-end
+add-alphanumeric-end c = search ways
 
-run-end-requires : tie.Need-run-end-requires
-run-end-requires c κs = search ways
+alphanumeric-end-requires : tie.Need-alphanumeric-end-requires
+alphanumeric-end-requires c κs = search ways
 
 run-token-requires : tie.Need-run-token-requires
 run-token-requires c κs = search ways
@@ -29,4 +29,5 @@ returns : tie.Need-returns
 returns c = search ways
 
 pub variable-token-spec : {M : Type 1} → statement M
-variable-token-spec = tie.close (tie.spec add-run-end run-end-requires run-token-requires returns)
+variable-token-spec =
+    tie.close (tie.spec add-alphanumeric-end alphanumeric-end-requires run-token-requires returns)

@@ -33,15 +33,15 @@ is-valid-requires c κs = search ways
 answer-at-requires : tie.Need-answer-at-requires
 answer-at-requires c κs = search ways
 
-returns : tie.Need-returns
-returns c = search ways
-
 not-valid-requires : tie.Need-not-valid-requires
 not-valid-requires c κs = search ways
+
+returns : tie.Need-returns
+returns c = search ways
 
 returns-2 : tie.Need-returns-2
 returns-2 c = search ways
 
 pub answer-in-spec : {M : Type 1} → statement M
 answer-in-spec =
-    tie.close (tie.spec is-valid-requires answer-at-requires returns not-valid-requires returns-2)
+    tie.close (tie.spec is-valid-requires answer-at-requires not-valid-requires returns returns-2)

@@ -58,11 +58,11 @@ add-whole c = search ways
 whole-requires : tie.Need-whole-requires
 whole-requires c κs = search ways
 
-returns : tie.Need-returns
-returns c = search ways
-
 whole-requires-2 : tie.Need-whole-requires-2
 whole-requires-2 c κs = search ways
+
+returns : tie.Need-returns
+returns c = search ways
 
 returns-2 : tie.Need-returns-2
 returns-2 c = search ways
@@ -80,7 +80,7 @@ bar-token-spec =
     enum-known-b
     add-whole
     whole-requires
-    returns
     whole-requires-2
+    returns
     returns-2
     returns-3)

@@ -1,6 +1,7 @@
 -- `lexer::token::end_token` meets its contract. Assumes nothing.
 use Prim.Native.Nat.{ℕ, _+_, _^_, _<_}
 use mathlib.Core.Path.{_≡_, sym, _∙_}
+use mathlib.Core.Bool.{Bool, true, false}
 use mathlib.Core.List.{List}
 use native.Mathlib.Omega.{arith}
 use borrow.Author.Needs.{needs}
@@ -8,9 +9,9 @@ use borrow.Author.Tests.{ne-eqb}
 use lib.ListN.{length}
 use mir.Syntax.{w64}
 use mir.Val.{Fits}
-use Rattle.lexer.specs.Chars.{classOf, layoutChar, newline, percent, point}
+use Rattle.lexer.specs.Chars.{classOf, is, layoutChar, newline, percent}
 use Rattle.lexer.specs.Look.{peek}
-use Rattle.lexer.specs.Name.{nameToken}
+use Rattle.lexer.specs.Name.{graphicToken, nameToken}
 use Rattle.lexer.specs.Refusal.{fault}
 use Rattle.lexer.specs.Token.{pointTo, endToken}
 use Rattle.lexer.specs.declared.refusal.Refusal.the-variants.{ForeignByte}
@@ -39,19 +40,20 @@ module _ (s : List ℕ) (at : ℕ) (r : Peek) (e : r ≡ peek s (at + 1)) where
     unfolding pointTo
     with-newline p g h = cc
 
-    module _ (g : b ≡ newline → ⊥) (k : ℕ) (q : k ≡ classOf b) where
-      before-layout : (p : Plain) → k ≡ layoutChar → p ≡ Plain.Whole End Nothing (at + 1) → p ≡ endToken s at
+    module _ (g : b ≡ newline → ⊥) (t : Bool) (q : t ≡ is layoutChar b) where
+      before-layout : (p : Plain) → t ≡ true → p ≡ Plain.Whole End Nothing (at + 1) → p ≡ endToken s at
       unfolding pointTo
       before-layout p h i = cc (ne-eqb b newline g)
 
-      module _ (h : k ≡ layoutChar → ⊥) where
+      module _ (h : t ≡ false) where
         before-comment : (p : Plain) → b ≡ percent → p ≡ Plain.Whole End Nothing (at + 1) → p ≡ endToken s at
         unfolding pointTo
-        before-comment p i j = cc (ne-eqb b newline g, ne-eqb k layoutChar h)
+        before-comment p i j = cc (ne-eqb b newline g)
 
-        a-name : (p : Plain) → (b ≡ percent → ⊥) → p ≡ nameToken s at point → p ≡ endToken s at
-        unfolding pointTo
-        a-name p i j = cc (ne-eqb b newline g, ne-eqb k layoutChar h, ne-eqb b percent i)
+        -- the point is a graphic character
+        a-name : (p : Plain) → (b ≡ percent → ⊥) → p ≡ graphicToken s at → p ≡ endToken s at
+        unfolding pointTo nameToken classOf
+        a-name p i j = cc (ne-eqb b newline g, ne-eqb b percent i)
 
 ruleset ways = (ended, foreign, two-fit, with-newline, before-layout, before-comment, a-name, needs)
 
@@ -80,26 +82,26 @@ add-whole c = search ways
 whole-requires-2 : tie.Need-whole-requires-2
 whole-requires-2 c κs = search ways
 
-returns : tie.Need-returns
-returns c = search ways
-
-class-requires : tie.Need-class-requires
-class-requires c κs = search ways
+is-layout-requires : tie.Need-is-layout-requires
+is-layout-requires c κs = search ways
 
 whole-requires-3 : tie.Need-whole-requires-3
 whole-requires-3 c κs = search ways
 
-returns-2 : tie.Need-returns-2
-returns-2 c = search ways
-
 whole-requires-4 : tie.Need-whole-requires-4
 whole-requires-4 c κs = search ways
 
+graphic-token-requires : tie.Need-graphic-token-requires
+graphic-token-requires c κs = search ways
+
+returns : tie.Need-returns
+returns c = search ways
+
+returns-2 : tie.Need-returns-2
+returns-2 c = search ways
+
 returns-3 : tie.Need-returns-3
 returns-3 c = search ways
-
-name-token-requires : tie.Need-name-token-requires
-name-token-requires c κs = search ways
 
 returns-4 : tie.Need-returns-4
 returns-4 c = search ways
@@ -122,13 +124,13 @@ end-token-spec =
     enum-known-b
     add-whole
     whole-requires-2
-    returns
-    class-requires
+    is-layout-requires
     whole-requires-3
-    returns-2
     whole-requires-4
+    graphic-token-requires
+    returns
+    returns-2
     returns-3
-    name-token-requires
     returns-4
     returns-5
     returns-6)

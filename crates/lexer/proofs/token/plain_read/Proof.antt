@@ -22,14 +22,14 @@ ruleset ways = (number, token, needs)
 plain-number-requires : tie.Need-plain-number-requires
 plain-number-requires c κs = search ways
 
-returns : tie.Need-returns
-returns c = search ways
-
 plain-token-requires : tie.Need-plain-token-requires
 plain-token-requires c κs = search ways
+
+returns : tie.Need-returns
+returns c = search ways
 
 returns-2 : tie.Need-returns-2
 returns-2 c = search ways
 
 pub plain-read-spec : {M : Type 1} → statement M
-plain-read-spec = tie.close (tie.spec plain-number-requires returns plain-token-requires returns-2)
+plain-read-spec = tie.close (tie.spec plain-number-requires plain-token-requires returns returns-2)

@@ -1,13 +1,14 @@
 -- `lexer::token::solo_token` meets its contract. Assumes nothing.
 use Prim.Native.Nat.{ℕ, _+_}
 use mathlib.Core.Path.{_≡_}
-use mathlib.Core.Bool.{Bool}
+use mathlib.Core.Bool.{Bool, true}
 use mathlib.Core.List.{List}
+use lib.ListN.{length}
 use borrow.Author.Needs.{needs}
-use borrow.Author.Tests.{ne-eqb}
-use Rattle.lexer.specs.Chars.{bar}
-use Rattle.lexer.specs.Name.{nameToken}
-use Rattle.lexer.specs.Token.{mark, barToken, soloTo, soloToken}
+use borrow.Author.Tests.{eqb-true, ne-eqb}
+use Rattle.lexer.specs.Chars.{classOf, is, bar, soloChar}
+use Rattle.lexer.specs.Name.{soloName, nameToken}
+use Rattle.lexer.specs.Token.{mark, barToken, soloTo, soloToken, AtSolo}
 use Rattle.lexer.specs.declared.kind.Kind.{Kind}
 use Rattle.lexer.specs.declared.kind.Value.the-variants.{Nothing}
 use Rattle.lexer.specs.declared.kind.Plain.{Plain}
@@ -25,9 +26,9 @@ module _ (s : List ℕ) (at : ℕ) (t : Bool) (b : ℕ) (m : Mark) (e : m ≡ ma
     unfolding soloTo
     a-bar g h = cc
 
-    a-name : (b ≡ bar → ⊥) → p ≡ nameToken s at b → p ≡ soloToken s at t b
-    unfolding soloTo
-    a-name g h = cc (ne-eqb b bar g)
+    a-name : AtSolo (length s) at b → (b ≡ bar → ⊥) → p ≡ soloName at (at + 1) b → p ≡ soloToken s at t b
+    unfolding soloTo nameToken
+    a-name w g h = cc (ne-eqb b bar g, eqb-true (classOf b) soloChar (w .solo))
 
 ruleset ways = (marked, a-bar, a-name, needs)
 
@@ -50,11 +51,14 @@ enum-told c = search ways
 bar-token-requires : tie.Need-bar-token-requires
 bar-token-requires c κs = search ways
 
+add-solo-name : tie.Need-add-solo-name
+add-solo-name c = search ways
+
+solo-name-requires : tie.Need-solo-name-requires
+solo-name-requires c κs = search ways
+
 returns : tie.Need-returns
 returns c = search ways
-
-name-token-requires : tie.Need-name-token-requires
-name-token-requires c κs = search ways
 
 returns-2 : tie.Need-returns-2
 returns-2 c = search ways
@@ -72,7 +76,8 @@ solo-token-spec =
     whole-requires
     enum-told
     bar-token-requires
+    add-solo-name
+    solo-name-requires
     returns
-    name-token-requires
     returns-2
     returns-3)

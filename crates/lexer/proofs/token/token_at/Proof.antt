@@ -1,12 +1,11 @@
 -- `lexer::token::token_at` meets its contract. Assumes nothing.
 use Prim.Native.Nat.{ℕ}
 use mathlib.Core.Path.{_≡_, sym, _∙_}
-use mathlib.Core.Bool.{Bool}
+use mathlib.Core.Bool.{Bool, true, false}
 use mathlib.Core.List.{List}
 use borrow.Author.Needs.{needs}
-use borrow.Author.Tests.{ne-eqb}
 use lib.ListN.{length}
-use Rattle.lexer.specs.Chars.{classOf, quoteChar}
+use Rattle.lexer.specs.Chars.{is, quoteChar}
 use Rattle.lexer.specs.Cursor.{Valid}
 use Rattle.lexer.specs.Look.{lookahead}
 use Rattle.lexer.specs.Token.{plain, plainLexeme, quotedLexeme, lexemeTo, found, Begins}
@@ -30,14 +29,14 @@ module _ (s : List ℕ) (c : Cursor) (r : Look) (e : r ≡ lookahead s (c .offse
     begins : Valid (length s) c → Begins s c b
     begins v = record { valid = v; there = sym e ∙ f }
 
-    module _ (field t : Bool) (k : ℕ) (q : k ≡ classOf b) (z : Found) where
-      quoted : k ≡ quoteChar → z ≡ found s c (quotedLexeme field s (c .offset) b) → z ≡ There field s c t
+    module _ (field t q : Bool) (g : q ≡ is quoteChar b) (z : Found) where
+      quoted : q ≡ true → z ≡ found s c (quotedLexeme field s (c .offset) b) → z ≡ There field s c t
       unfolding lexemeTo
-      quoted g h = cc
+      quoted h i = cc
 
-      not-quoted : (k ≡ quoteChar → ⊥) → z ≡ found s c (plainLexeme (c .offset) (plain field s (c .offset) t b)) → z ≡ There field s c t
+      not-quoted : q ≡ false → z ≡ found s c (plainLexeme (c .offset) (plain field s (c .offset) t b)) → z ≡ There field s c t
       unfolding lexemeTo
-      not-quoted g h = cc (ne-eqb k quoteChar g)
+      not-quoted h i = cc
 
 ruleset ways = (refused, begins, quoted, not-quoted, needs)
 
@@ -51,17 +50,17 @@ enum-known-fault c = search ways
 enum-known-b : tie.Need-enum-known-b
 enum-known-b c = search ways
 
-class-requires : tie.Need-class-requires
-class-requires c κs = search ways
+is-quote-requires : tie.Need-is-quote-requires
+is-quote-requires c κs = search ways
 
 quoted-found-requires : tie.Need-quoted-found-requires
 quoted-found-requires c κs = search ways
 
-returns : tie.Need-returns
-returns c = search ways
-
 plain-found-requires : tie.Need-plain-found-requires
 plain-found-requires c κs = search ways
+
+returns : tie.Need-returns
+returns c = search ways
 
 returns-2 : tie.Need-returns-2
 returns-2 c = search ways
@@ -76,9 +75,9 @@ token-at-spec =
     lookahead-char-requires
     enum-known-fault
     enum-known-b
-    class-requires
+    is-quote-requires
     quoted-found-requires
-    returns
     plain-found-requires
+    returns
     returns-2
     returns-3)
