@@ -222,14 +222,14 @@ fn plain_token(text: &[u8], at: usize, layout: bool, b: u8) -> Plain
     requires { ⌜ At (now text) at b ⌝ }
     ensures { λ r. ⌜ r ≡ plainToken (now (text .entry)) at layout b ⌝ }
 {
-    if is_digit(b) {
-        whole_number(text, at, false)
-    } else if is_solo(b) {
+    if is_solo(b) {
         solo_token(text, at, b, layout)
     } else if is_capital(b) {
         variable_token(text, at)
     } else if is_underscore(b) {
         variable_token(text, at)
+    } else if is_digit(b) {
+        whole_number(text, at, false)
     } else if b == b'.' {
         end_token(text, at)
     } else {

@@ -27,27 +27,27 @@ module _ (s : List ℕ) (at b : ℕ) where
   at-solo : (o : Bool) → o ≡ is soloChar b → At s at b → o ≡ true → AtSolo (length s) at b
   at-solo o e w f = record { inside = inside w; solo = sym e ∙ f }
 
-  module _ (t : Bool) (p : Plain) (d : Bool) (e : d ≡ is decimalDigit b) where
-    number : d ≡ true → p ≡ numbered false at (numberToken s at) → p ≡ plainToken s at t b
+  module _ (t : Bool) (p : Plain) (o : Bool) (e : o ≡ is soloChar b) where
+    solo : o ≡ true → p ≡ soloToken s at t b → p ≡ plainToken s at t b
     unfolding plainToken
-    number f g = cc
+    solo f g = cc (eqb-true (classOf b) soloChar (sym e ∙ f))
 
-    module _ (f : d ≡ false) (o : Bool) (g : o ≡ is soloChar b) where
-      solo : o ≡ true → p ≡ soloToken s at t b → p ≡ plainToken s at t b
+    module _ (f : o ≡ false) (k : Bool) (g : k ≡ is capitalLetter b) where
+      capital : k ≡ true → p ≡ variableToken s at → p ≡ plainToken s at t b
       unfolding plainToken
-      solo h i = cc
+      capital h i = cc (eqb-true (classOf b) capitalLetter (sym g ∙ h))
 
-      module _ (h : o ≡ false) (k : Bool) (i : k ≡ is capitalLetter b) where
-        capital : k ≡ true → p ≡ variableToken s at → p ≡ plainToken s at t b
+      module _ (h : k ≡ false) (u : Bool) (i : u ≡ is underscoreChar b) where
+        underscore : u ≡ true → p ≡ variableToken s at → p ≡ plainToken s at t b
         unfolding plainToken
-        capital j l = cc
+        underscore j l = cc (eqb-true (classOf b) underscoreChar (sym i ∙ j))
 
-        module _ (j : k ≡ false) (u : Bool) (l : u ≡ is underscoreChar b) where
-          underscore : u ≡ true → p ≡ variableToken s at → p ≡ plainToken s at t b
+        module _ (j : u ≡ false) (d : Bool) (l : d ≡ is decimalDigit b) where
+          number : d ≡ true → p ≡ numbered false at (numberToken s at) → p ≡ plainToken s at t b
           unfolding plainToken
-          underscore m n = cc
+          number m n = cc
 
-          module _ (m : u ≡ false) where
+          module _ (m : d ≡ false) where
             end-mark : b ≡ point → p ≡ endToken s at → p ≡ plainToken s at t b
             unfolding plainToken
             end-mark n q = cc
@@ -59,12 +59,6 @@ module _ (s : List ℕ) (at b : ℕ) where
 ruleset ways = (inside, at-digit, at-solo, number, solo, capital, underscore, end-mark, a-name, needs)
 
 -- answers
-is-digit-requires : tie.Need-is-digit-requires
-is-digit-requires c κs = search ways
-
-whole-number-requires : tie.Need-whole-number-requires
-whole-number-requires c κs = search ways
-
 is-solo-requires : tie.Need-is-solo-requires
 is-solo-requires c κs = search ways
 
@@ -82,6 +76,12 @@ is-underscore-requires c κs = search ways
 
 variable-token-requires-2 : tie.Need-variable-token-requires-2
 variable-token-requires-2 c κs = search ways
+
+is-digit-requires : tie.Need-is-digit-requires
+is-digit-requires c κs = search ways
+
+whole-number-requires : tie.Need-whole-number-requires
+whole-number-requires c κs = search ways
 
 end-token-requires : tie.Need-end-token-requires
 end-token-requires c κs = search ways
@@ -111,14 +111,14 @@ pub plain-token-spec : {M : Type 1} → statement M
 plain-token-spec =
     tie.close
     (tie.spec
-    is-digit-requires
-    whole-number-requires
     is-solo-requires
     solo-token-requires
     is-capital-requires
     variable-token-requires
     is-underscore-requires
     variable-token-requires-2
+    is-digit-requires
+    whole-number-requires
     end-token-requires
     name-token-requires
     returns
