@@ -4,7 +4,7 @@ use mathlib.Core.Path.{_≡_}
 use mathlib.Core.Bool.{Bool, true, false, cond}
 use mathlib.Core.Option.{Option, none, some}
 use mathlib.Core.List.{List, [], _∷_}
-use lib.Dec.{eqb, leb}
+use lib.Dec.{leb}
 use lib.ListN.{length}
 use lib.Seq.{sets}
 use Rattle.lexer.specs.Cursor.{valid, moveTo}
@@ -24,7 +24,6 @@ use Rattle.reader.specs.Weight.{weight}
 use Rattle.reader.specs.Clause.{mostTokens, Gathered, whole, stopped, tooMany, tokenIn, isEnd, clauseTokens, firstOffset}
 use Rattle.reader.specs.Layout.{stateOf}
 use Rattle.reader.specs.declared.machine.Mode.{Mode}
-use Rattle.reader.specs.declared.clause.Turn.{Turn}
 use Rattle.reader.specs.declared.clause.Machined.{Machined}
 use Rattle.reader.specs.declared.clause.ClauseAnswer.{ClauseAnswer}
 use Rattle.reader.specs.declared.clause.ClauseAnswer.the-variants.{Read, Refused}
@@ -65,11 +64,11 @@ pub record QuotedFrom (s : List ℕ) (c : Cursor) : Type 0 where
 
 -- ---- the machine over the tokens of a clause
 
--- behind the end mark, with the machine there; or a token's refusal; or too many tokens
+-- behind the end mark, with the machine there; or a token's refusal; or behind so many tokens without a mark
 pub data Result : Type 0 where
   finished : State → Cursor → Result
   halted : Fault → Result
-  overflow : Result
+  paused : State → Cursor → Result
 
 -- the machine at z takes the token i, which was read from c, and goes on where it is no end mark
 unfoldable pub runOn : List ℕ → Cursor → ℕ → State → Lexeme → (State → Cursor → Result) → Result
@@ -79,52 +78,31 @@ runOn s c i z (lexeme t e x) next =
 
 -- n tokens at most, from the token i on
 unfoldable pub clauseRun : ℕ → ℕ → State → List ℕ → Cursor → Result
-clauseRun zero i z s c = overflow
+clauseRun zero i z s c = paused z c
 clauseRun (suc n) i z s c = runOn s c i z (readLexeme false s (c .offset)) (λ y d. clauseRun n (i + 1) y s d)
 
 -- ---- what the code keeps of it
 
--- one token: the machine goes on, or stands behind the end mark; a 1,024th token that is none is one too many
-pub data Turned : Type 0 where
-  more : State → Cursor → Turned
-  last : State → Cursor → Turned
-  stop : Fault → Turned
-  full : Turned
-
-unfoldable pub turnedBy : List ℕ → Cursor → ℕ → State → Lexeme → Turned
-turnedBy s c i z (refused w) = stop w
-turnedBy s c i z (lexeme t e x) =
-    cond (isEnd (t .kind)) (last (M.step packed z i (seen (tokenIn s t e x))) (moveTo s c e))
-    (cond (eqb i 1023) full (more (M.step packed z i (seen (tokenIn s t e x))) (moveTo s c e)))
-
-abbrev pub turnFrom : List ℕ → Cursor → ℕ → State → Turned
-turnFrom s c i z = turnedBy s c i z (readLexeme false s (c .offset))
-
-unfoldable pub turnOf : Turn → List ℕ → List ℕ → Turned
-turnOf (Turn.More m d) st ns = more (stateOf m st ns) d
-turnOf (Turn.Last m d) st ns = last (stateOf m st ns) d
-turnOf (Turn.Stopped w) st ns = stop w
-turnOf Turn.TooMany st ns = full
-
 unfoldable pub resultOf : Machined → List ℕ → List ℕ → Result
 resultOf (Machined.Whole m d) st ns = finished (stateOf m st ns) d
 resultOf (Machined.Stopped w) st ns = halted w
-resultOf Machined.TooMany st ns = overflow
+resultOf (Machined.Paused m d) st ns = paused (stateOf m st ns) d
 
 -- ---- what the code asks
 
--- arrays of 1,024, of which the machine behind i tokens takes i + 1 words at most
-pub record Turning (s : List ℕ) (c : Cursor) (i : ℕ) (m : Mode) (st ns : List ℕ) : Type 0 where
+-- the tokens from i on are to be taken, up to an index; the machine takes i + 1 words at most, and there is one for each of them
+pub record Taking (s : List ℕ) (c : Cursor) (i to : ℕ) (m : Mode) (st ns : List ℕ) : Type 0 where
   pub valid-cursor : valid (length s) c ≡ true
-  pub index : i ≤ 1023
-  pub frames : length st ≡ mostTokens
-  pub nodes : length ns ≡ mostTokens
+  pub ahead : i ≤ to
+  pub few : to ≤ mostTokens
+  pub frames : to < length st
+  pub nodes : to < length ns
   pub words : weight (stateOf m st ns) ≤ i + 1
 
-pub record Taking (s : List ℕ) (c : Cursor) (st ns : List ℕ) : Type 0 where
+pub record Beginning (s : List ℕ) (c : Cursor) (st ns : List ℕ) : Type 0 where
   pub valid-cursor : valid (length s) c ≡ true
-  pub frames : length st ≡ mostTokens
-  pub nodes : length ns ≡ mostTokens
+  pub frames : mostTokens < length st
+  pub nodes : mostTokens < length ns
 
 -- ---- the whole call
 -- an answer, and what is left in the tree slice
@@ -161,7 +139,7 @@ module _ (s : List ℕ) (c : Cursor) (d : List ℕ) where
 -- the same of the run over the tokens
 unfoldable pub byResult : List ℕ → Cursor → List ℕ → Result → Left
 byResult s c d (halted w) = leaves (Refused w c) d
-byResult s c d overflow = leaves (Refused (fault TooManyTokens (firstOffset s c)) c) d
+byResult s c d (paused z e) = leaves (Refused (fault TooManyTokens (firstOffset s c)) c) d
 byResult s c d (finished z e) = byNodes s c d e (nodesOf z)
 
 -- ---- what these functions ask
@@ -169,9 +147,9 @@ byResult s c d (finished z e) = byNodes s c d e (nodesOf z)
 pub record Finished (s : List ℕ) (c : Cursor) (n : ℕ) (ns : List ℕ) : Type 0 where
   pub valid-cursor : valid (length s) c ≡ true
   pub nodes : n ≤ length ns
-  pub words : length ns ≤ mostTokens
+  pub words : length ns ≤ mostTokens + 1
 
 pub record Finishing (s : List ℕ) (c : Cursor) (m : Mode) (st ns : List ℕ) : Type 0 where
   pub valid-cursor : valid (length s) c ≡ true
-  pub words : length ns ≡ mostTokens
-  pub weight-left : weight (stateOf m st ns) ≤ mostTokens + 1
+  pub words : length ns ≤ mostTokens + 1
+  pub weight-left : weight (stateOf m st ns) ≤ length ns

@@ -22,6 +22,7 @@ use lexer::next_token_text;
 ghost use mathlib.Core.Path.{_≡_};
 ghost use mathlib.Core.Bool.{true};
 ghost use mathlib.Core.Option.{some};
+ghost use Prim.Native.Nat.{_-_};
 ghost use lib.ListN.{length};
 ghost use Rattle.lexer.specs.Cursor.{valid};
 ghost use Rattle.lexer.specs.Refusal.{fault};
@@ -30,7 +31,7 @@ ghost use Rattle.reader.specs.Roles.{rolesOf};
 ghost use Rattle.reader.specs.Machine as M;
 ghost use Rattle.reader.specs.Layout.{sightOf, stateOf, outOf};
 ghost use Rattle.reader.specs.Clause.{mostTokens, isEnd, clauseTokens, firstOffset, Outcome};
-ghost use Rattle.reader.specs.Gather.{tokenFrom, sightFrom, turnFrom, turnOf, clauseRun, resultOf, leaves, nodesOf, byNodes, byTokens, ReadFrom, NameFrom, QuotedFrom, Turning, Taking, Finished, Finishing};
+ghost use Rattle.reader.specs.Gather.{tokenFrom, sightFrom, clauseRun, resultOf, leaves, nodesOf, byNodes, byTokens, ReadFrom, NameFrom, QuotedFrom, Taking, Beginning, Finished, Finishing};
 ghost use Rattle.reader.specs.declared.clause.ClauseAnswer.{ClauseAnswer};
 
 pub enum ClauseAnswer {
@@ -135,78 +136,46 @@ pub(crate) fn is_end(kind: Kind) -> bool
     }
 }
 
-// The index of the last token that a clause may have, its end mark.
-const LAST: u16 = 1023;
-
-// One token: the machine goes on, or stands behind the end mark.
-pub enum Turn {
-    More { mode: Mode, next: Cursor },
-    Last { mode: Mode, next: Cursor },
-    Stopped(Fault),
-    TooMany,
-}
-
-// The token of that index, at the cursor, is read and put to the machine.
-fn take_token(
-    text: &[u8],
-    c: Cursor,
-    index: u16,
-    mode: Mode,
-    frames: &mut [u64],
-    nodes: &mut [u32],
-) -> Turn
-    requires { ⌜ Turning (now text) c index mode (now frames) (now nodes) ⌝ }
-    ensures { λ r. ⌜ turnOf r (now (frames .exit)) (now (nodes .exit)) ≡ turnFrom (now (text .entry)) c index (stateOf mode (now (frames .entry)) (now (nodes .entry))) ⌝ }
-{
-    match next_token(text, c) {
-        Answer::Refused { fault, cursor: _ } => Turn::Stopped(fault),
-        Answer::Read { token, next } => {
-            let sight = see_token(text, c, token, next);
-            let kind = token.kind;
-            if is_end(kind) {
-                return Turn::Last {
-                    mode: step(mode, index, sight, frames, nodes),
-                    next,
-                };
-            }
-            if index == LAST {
-                return Turn::TooMany;
-            }
-            Turn::More {
-                mode: step(mode, index, sight, frames, nodes),
-                next,
-            }
-        }
-    }
-}
-
-// The machine behind the tokens of a clause.
+// The machine behind the end mark of a clause, or behind so many tokens of it.
 pub enum Machined {
     Whole { mode: Mode, next: Cursor },
     Stopped(Fault),
-    TooMany,
+    Paused { mode: Mode, next: Cursor },
 }
 
-// The tokens up to an end mark are read and put to the machine, one after the other.
-fn take_tokens(text: &[u8], cursor: Cursor, frames: &mut [u64], nodes: &mut [u32]) -> Machined
-    requires { ⌜ Taking (now text) cursor (now frames) (now nodes) ⌝ }
-    ensures { λ r. ⌜ resultOf r (now (frames .exit)) (now (nodes .exit)) ≡ clauseRun mostTokens 0 M.start (now (text .entry)) cursor ⌝ }
+// The tokens from one index to another, or to an end mark before it, are read and put to the machine, one after the other. The loop hands the mode
+// round by itself: through an enum of a turn's ways out the compiler would copy it in memory at each token.
+fn take_tokens(
+    text: &[u8],
+    cursor: Cursor,
+    from: u16,
+    to: u16,
+    before: Mode,
+    frames: &mut [u64],
+    nodes: &mut [u32],
+) -> Machined
+    requires { ⌜ Taking (now text) cursor from to before (now frames) (now nodes) ⌝ }
+    ensures { λ r. ⌜ resultOf r (now (frames .exit)) (now (nodes .exit)) ≡ clauseRun (to - from) from (stateOf before (now (frames .entry)) (now (nodes .entry))) (now (text .entry)) cursor ⌝ }
 {
-    let mut mode = start(frames, nodes);
+    let mut mode = before;
     let mut c = cursor;
-    let mut index: u16 = 0;
-    loop {
-        match take_token(text, c, index, mode, frames, nodes) {
-            Turn::Stopped(fault) => return Machined::Stopped(fault),
-            Turn::TooMany => return Machined::TooMany,
-            Turn::Last { mode: last, next } => return Machined::Whole { mode: last, next },
-            Turn::More { mode: more, next } => {
-                mode = more;
+    let mut index = from;
+    while index < to {
+        match next_token(text, c) {
+            Answer::Refused { fault, cursor: _ } => return Machined::Stopped(fault),
+            Answer::Read { token, next } => {
+                let sight = see_token(text, c, token, next);
+                mode = step(mode, index, sight, frames, nodes);
+                let kind = token.kind;
+                if is_end(kind) {
+                    return Machined::Whole { mode, next };
+                }
                 c = next;
                 index += 1;
             }
         }
     }
+    Machined::Paused { mode, next: c }
 }
 
 // The offset of the first token.
@@ -279,16 +248,30 @@ fn finish_clause(
     }
 }
 
-// The clause at a valid cursor.
+// The most tokens that a clause may have, its end mark among them.
+const MOST: u16 = 1024;
+
+// The tokens from the first on.
+fn first_tokens(text: &[u8], cursor: Cursor, frames: &mut [u64], nodes: &mut [u32]) -> Machined
+    requires { ⌜ Beginning (now text) cursor (now frames) (now nodes) ⌝ }
+    ensures { λ r. ⌜ resultOf r (now (frames .exit)) (now (nodes .exit)) ≡ clauseRun mostTokens 0 M.start (now (text .entry)) cursor ⌝ }
+{
+    let mode = start(frames, nodes);
+    take_tokens(text, cursor, 0, MOST, mode, frames, nodes)
+}
+
+// The clause at a valid cursor. The machine takes a word for each token at most, and one before the first.
 fn clause_at(text: &[u8], cursor: Cursor, tree: &mut [u16]) -> ClauseAnswer
     requires { ⌜ valid (length (now text)) cursor ≡ true ⌝ }
     ensures { λ r. ⌜ leaves r (now (tree .exit)) ≡ byTokens (now (text .entry)) cursor (now (tree .entry)) (clauseTokens (now (text .entry)) cursor) ⌝ }
 {
-    let mut frames = [0u64; 1024];
-    let mut nodes = [0u32; 1024];
-    match take_tokens(text, cursor, &mut frames, &mut nodes) {
+    let mut frames = [0u64; 1025];
+    let mut nodes = [0u32; 1025];
+    match first_tokens(text, cursor, &mut frames, &mut nodes) {
         Machined::Stopped(fault) => ClauseAnswer::Refused { fault, cursor },
-        Machined::TooMany => clause_refused(text, cursor, Refusal::TooManyTokens),
+        Machined::Paused { mode: _, next: _ } => {
+            clause_refused(text, cursor, Refusal::TooManyTokens)
+        }
         Machined::Whole { mode, next } => {
             finish_clause(text, cursor, mode, next, &frames, &nodes, tree)
         }

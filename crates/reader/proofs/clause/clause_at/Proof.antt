@@ -11,20 +11,20 @@ use Rattle.lexer.specs.Refusal.{fault}
 use Rattle.lexer.specs.declared.cursor.Cursor.{Cursor}
 use Rattle.lexer.specs.declared.refusal.Fault.{Fault}
 use Rattle.lexer.specs.declared.refusal.Refusal.the-variants.{TooManyTokens}
-use Rattle.reader.specs.Machine.{start}
-use Rattle.reader.specs.Weight.{weight}
+use Rattle.reader.specs.Machine.{size, start}
+use Rattle.reader.specs.Weight.{sizes, weight}
 use Rattle.reader.specs.Layout.{stateOf}
 use Rattle.reader.specs.Clause.{mostTokens, clauseTokens, firstOffset}
-use Rattle.reader.specs.Gather.{leaves, nodesOf, byNodes, byTokens, byResult, clauseRun, resultOf, Taking, Finishing}
+use Rattle.reader.specs.Gather.{leaves, nodesOf, byNodes, byTokens, byResult, clauseRun, resultOf, Beginning, Finishing}
 use Rattle.reader.specs.declared.machine.Mode.{Mode}
 use Rattle.reader.specs.declared.clause.Machined.{Machined}
 use Rattle.reader.specs.declared.clause.ClauseAnswer.{ClauseAnswer}
-use Rattle.reader.proofs.Runs.{same-outcome, run-light}
+use Rattle.reader.proofs.Runs.{same-outcome, finished-light}
 use Rattle.reader.proofs.clause.clause_at.Statement.{statement}
 use Rattle.reader.proofs.clause.clause_at.Tie as tie
 
-taking : (s : List ℕ) (c : Cursor) (st ns : List ℕ) → valid (length s) c ≡ true → length st ≡ 1024 → length ns ≡ 1024 → Taking s c st ns
-taking s c st ns v f g = record { valid-cursor = v; frames = f; nodes = g }
+beginning : (s : List ℕ) (c : Cursor) (st ns : List ℕ) → valid (length s) c ≡ true → length st ≡ 1025 → length ns ≡ 1025 → Beginning s c st ns
+beginning s c st ns v f g = record { valid-cursor = v; frames = omega arith; nodes = omega arith }
 
 -- what the tokens came to, with the slices as they are then
 module _ (s : List ℕ) (c : Cursor) (d : List ℕ) (r : Machined) (st ns : List ℕ) (e : resultOf r st ns ≡ clauseRun mostTokens 0 start s c) where
@@ -35,30 +35,33 @@ module _ (s : List ℕ) (c : Cursor) (d : List ℕ) (r : Machined) (st ns : List
   unfolding resultOf byResult
   stopped w f = ap (λ (x : Machined). byResult s c d (resultOf x st ns)) (sym f) ∙ told
 
-  too-many : (a : ClauseAnswer) → r ≡ Machined.TooMany → a ≡ ClauseAnswer.Refused (fault TooManyTokens (firstOffset s c)) c → leaves a d ≡ byTokens s c d (clauseTokens s c)
-  unfolding resultOf byResult
-  too-many a f g = ap (λ (x : ClauseAnswer). leaves x d) g ∙ ap (λ (x : Machined). byResult s c d (resultOf x st ns)) (sym f) ∙ told
-
-  module _ (m : Mode) (n : Cursor) (f : r ≡ Machined.Whole m n) where
-    finishing : valid (length s) c ≡ true → length ns ≡ 1024 → Finishing s c m st ns
-    unfolding resultOf
-    finishing v g = record { valid-cursor = v; words = g; weight-left = run-light s c (stateOf m st ns) n (sym e ∙ ap (λ (x : Machined). resultOf x st ns) f) }
-
-    accepted : (a : ClauseAnswer) (d′ : List ℕ) → leaves a d′ ≡ byNodes s c d n (nodesOf (stateOf m st ns)) → leaves a d′ ≡ byTokens s c d (clauseTokens s c)
+  module _ (m : Mode) (n : Cursor) where
+    too-many : (a : ClauseAnswer) → r ≡ Machined.Paused m n → a ≡ ClauseAnswer.Refused (fault TooManyTokens (firstOffset s c)) c → leaves a d ≡ byTokens s c d (clauseTokens s c)
     unfolding resultOf byResult
-    accepted a d′ g = g ∙ ap (λ (x : Machined). byResult s c d (resultOf x st ns)) (sym f) ∙ told
+    too-many a f g = ap (λ (x : ClauseAnswer). leaves x d) g ∙ ap (λ (x : Machined). byResult s c d (resultOf x st ns)) (sym f) ∙ told
 
-ruleset ways = (taking, stopped, too-many, finishing, accepted, needs)
+    module _ (f : r ≡ Machined.Whole m n) where
+      finishing : valid (length s) c ≡ true → length ns ≡ 1025 → Finishing s c m st ns
+      unfolding resultOf weight sizes size
+      finishing v g =
+          let w = finished-light mostTokens 0 start (stateOf m st ns) s c n (sym e ∙ ap (λ (x : Machined). resultOf x st ns) f) in
+          record { valid-cursor = v; words = omega arith; weight-left = omega arith }
+
+      accepted : (a : ClauseAnswer) (d′ : List ℕ) → leaves a d′ ≡ byNodes s c d n (nodesOf (stateOf m st ns)) → leaves a d′ ≡ byTokens s c d (clauseTokens s c)
+      unfolding resultOf byResult
+      accepted a d′ g = g ∙ ap (λ (x : Machined). byResult s c d (resultOf x st ns)) (sym f) ∙ told
+
+ruleset ways = (beginning, stopped, too-many, finishing, accepted, needs)
 
 -- answers
-slice-aggregate-take-tokens : tie.Need-slice-aggregate-take-tokens
-slice-aggregate-take-tokens c = search ways
+slice-aggregate-first-tokens : tie.Need-slice-aggregate-first-tokens
+slice-aggregate-first-tokens c = search ways
 
-slice-aggregate-take-tokens-2 : tie.Need-slice-aggregate-take-tokens-2
-slice-aggregate-take-tokens-2 c = search ways
+slice-aggregate-first-tokens-2 : tie.Need-slice-aggregate-first-tokens-2
+slice-aggregate-first-tokens-2 c = search ways
 
-take-tokens-requires : tie.Need-take-tokens-requires
-take-tokens-requires c κs = search ways
+first-tokens-requires : tie.Need-first-tokens-requires
+first-tokens-requires c κs = search ways
 
 enum-known-fault : tie.Need-enum-known-fault
 enum-known-fault c = search ways
@@ -97,9 +100,9 @@ pub clause-at-spec : {M : Type 1} → statement M
 clause-at-spec =
     tie.close
     (tie.spec
-    slice-aggregate-take-tokens
-    slice-aggregate-take-tokens-2
-    take-tokens-requires
+    slice-aggregate-first-tokens
+    slice-aggregate-first-tokens-2
+    first-tokens-requires
     enum-known-fault
     enum-told
     clause-refused-requires

@@ -29,8 +29,8 @@ module _ (s : List ℕ) (c : Cursor) (m : Mode) (e : Cursor) (st ns d : List ℕ
     finished : Finishing s c m st ns → Finished s c n ns
     unfolding weight stateOf
     finished w =
-        let g : weight (stateOf (Mode.Done n) st ns) ≤ 1025 = rw f at (w .weight-left) in
-        record { valid-cursor = w .valid-cursor; nodes = omega (arith, w .words, length-out ns n); words = omega (arith, w .words) }
+        let g : weight (stateOf (Mode.Done n) st ns) ≤ length ns = rw f at (w .weight-left) in
+        record { valid-cursor = w .valid-cursor; nodes = omega (arith, length-out ns n); words = w .words }
 
     accepted : (r : ClauseAnswer) (d′ : List ℕ) → leaves r d′ ≡ byNodes s c d e (some (outOf ns n)) → leaves r d′ ≡ byNodes s c d e (nodesOf (stateOf m st ns))
     unfolding nodesOf stateOf

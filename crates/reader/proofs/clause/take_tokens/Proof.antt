@@ -1,120 +1,124 @@
 -- `reader::clause::take_tokens` meets its contract. The invariant: the run over the tokens from the start comes to what it comes to from here.
 -- Assumes nothing.
-use Prim.Native.Nat.{ℕ, zero, suc, _+_, _-_, _<_, _≤_}
+use Prim.Native.Nat.{ℕ, suc, _+_, _-_, _<_, _≤_}
 use mathlib.Core.Path.{_≡_, refl, sym, _∙_, ap}
+use mathlib.Core.Bool.{Bool, true, false}
 use mathlib.Core.List.{List}
 use native.Mathlib.Omega.{arith}
 use borrow.Author.Needs.{needs}
 use lib.ListN.{length}
+use Rattle.lexer.specs.Token.{nextToken}
 use Rattle.lexer.specs.declared.cursor.Cursor.{Cursor}
 use Rattle.lexer.specs.declared.refusal.Fault.{Fault}
-use Rattle.reader.specs.Machine.{State, size, start}
-use Rattle.reader.specs.Weight.{sizes, weight}
-use Rattle.reader.specs.Layout.{stateOf, Room}
-use Rattle.reader.specs.Clause.{mostTokens}
-use Rattle.reader.specs.Gather.{clauseRun, more, last, stop, full, turnFrom, turnOf, resultOf, Turning, Taking}
+use Rattle.lexer.specs.declared.token.Token as lexer
+use Rattle.lexer.specs.declared.token.Answer.{Answer}
+use Rattle.reader.specs.Tree.{packed}
+use Rattle.reader.specs.Machine as M
+use Rattle.reader.specs.Machine.{State}
+use Rattle.reader.specs.Layout.{stateOf, sightOf, Ready}
+use Rattle.reader.specs.Clause.{isEnd}
+use Rattle.reader.specs.Gather.{sightFrom, ReadFrom, finished, clauseRun, resultOf, Taking}
 use Rattle.reader.specs.declared.machine.Mode.{Mode}
-use Rattle.reader.specs.declared.clause.Turn.{Turn}
+use Rattle.reader.specs.declared.machine.Sight.{Sight}
 use Rattle.reader.specs.declared.clause.Machined.{Machined}
-use Rattle.reader.proofs.Turns.{next-valid, behind, run-turn, Onward, went-on}
+use Rattle.reader.proofs.Sights.{known}
+use Rattle.reader.proofs.Size.{step-size}
+use Rattle.reader.proofs.Turns.{told-refused, next-valid, ready, takes-one, run-stop, run-last, run-more}
 use Rattle.reader.proofs.clause.take_tokens.Statement.{statement}
 use Rattle.reader.proofs.clause.take_tokens.Tie as tie
 
-record Inv (s : List ℕ) (c₀ c : Cursor) (i : ℕ) (m : Mode) (st ns : List ℕ) : Type 0 where
-  same : clauseRun mostTokens 0 start s c₀ ≡ clauseRun (mostTokens - i) i (stateOf m st ns) s c
-  turning : Turning s c i m st ns
+record Inv (s : List ℕ) (c₀ : Cursor) (from to : ℕ) (m₀ : Mode) (st₀ ns₀ : List ℕ) (c : Cursor) (i : ℕ) (m : Mode) (st ns : List ℕ) : Type 0 where
+  same : clauseRun (to - from) from (stateOf m₀ st₀ ns₀) s c₀ ≡ clauseRun (to - i) i (stateOf m st ns) s c
+  taking : Taking s c i to m st ns
+  frames : length st ≡ length st₀
+  nodes : length ns ≡ length ns₀
 
-room : (s : List ℕ) (c : Cursor) (st ns : List ℕ) → Taking s c st ns → Room st ns 0 0 1
-room s c st ns w = record { frames = omega (arith, w .frames); nodes = omega (arith, w .nodes) }
+started : (s : List ℕ) (c : Cursor) (from to : ℕ) (m : Mode) (st ns : List ℕ) → Taking s c from to m st ns → Inv s c from to m st ns c from m st ns
+started s c from to m st ns w = record { same = refl; taking = w; frames = refl; nodes = refl }
 
-started : (s : List ℕ) (c : Cursor) (st st′ ns : List ℕ) (m : Mode) → Taking s c st ns → length st′ ≡ length st → stateOf m st′ ns ≡ start → Inv s c c 0 m st′ ns
-unfolding weight sizes size
-started s c st st′ ns m w l e =
-    record {
-      same = ap (λ (z : State). clauseRun mostTokens 0 z s c) (sym e);
-      turning =
-          record {
-            valid-cursor = w .valid-cursor;
-            index = omega arith;
-            frames = l ∙ w .frames;
-            nodes = w .nodes;
-            words = rw e (omega arith);
-          };
-    }
+-- the ways out of the loop and of a turn, over plain values: a is what the token call answered
+module _ (s : List ℕ) (c₀ : Cursor) (from to : ℕ) (m₀ : Mode) (st₀ ns₀ : List ℕ) (c : Cursor) (i : ℕ) (m : Mode) (st ns : List ℕ) (v : Inv s c₀ from to m₀ st₀ ns₀ c i m st ns) where
+  pauses : to ≤ i → resultOf (Machined.Paused m c) st ns ≡ clauseRun (to - from) from (stateOf m₀ st₀ ns₀) s c₀
+  unfolding resultOf clauseRun
+  pauses h =
+      let n : to - i ≡ 0 = omega arith in
+      sym (v .same ∙ ap (λ (k : ℕ). clauseRun k i (stateOf m st ns) s c) n)
 
--- the ways out of a turn, over plain values: t is what the token came to
-module _ (s : List ℕ) (c₀ c : Cursor) (i : ℕ) (m : Mode) (st ns : List ℕ) (v : Inv s c₀ c i m st ns) where
-  turn-there : Turning s c i m st ns
-  turn-there = v .turning
-
-  module _ (t : Turn) (st′ ns′ : List ℕ) (e : turnOf t st′ ns′ ≡ turnFrom s c i (stateOf m st ns)) where
+  module _ (h : i < to) where
     -- from here: the token, and what follows it
-    from-here : clauseRun mostTokens 0 start s c₀ ≡ behind (1023 - i) i s (turnOf t st′ ns′)
-    from-here =
-        let n : mostTokens - i ≡ suc (1023 - i) = omega (arith, v .turning .index) in
-        let r = run-turn s c i (stateOf m st ns) (1023 - i) (omega (arith, v .turning .index)) in
-        v .same ∙ ap (λ (k : ℕ). clauseRun k i (stateOf m st ns) s c) n ∙ r ∙ ap (behind (1023 - i) i s) (sym e)
+    from-here : clauseRun (to - from) from (stateOf m₀ st₀ ns₀) s c₀ ≡ clauseRun (suc (to - (i + 1))) i (stateOf m st ns) s c
+    from-here = let n : to - i ≡ suc (to - (i + 1)) = omega arith in v .same ∙ ap (λ (k : ℕ). clauseRun k i (stateOf m st ns) s c) n
 
-    stopped : (w : Fault) → t ≡ Turn.Stopped w → resultOf (Machined.Stopped w) st′ ns′ ≡ clauseRun mostTokens 0 start s c₀
-    unfolding resultOf behind turnOf
-    stopped w f = sym (from-here ∙ ap (λ (x : Turn). behind (1023 - i) i s (turnOf x st′ ns′)) f)
+    less : to - (i + 1) < to - i
+    less = omega arith
 
-    too-many : t ≡ Turn.TooMany → resultOf Machined.TooMany st′ ns′ ≡ clauseRun mostTokens 0 start s c₀
-    unfolding resultOf behind turnOf
-    too-many f = sym (from-here ∙ ap (λ (x : Turn). behind (1023 - i) i s (turnOf x st′ ns′)) f)
+    next-fits : i + 1 < 65536
+    next-fits = omega (arith, v .taking .few)
 
-    module _ (m′ : Mode) (d : Cursor) where
-      ended : t ≡ Turn.Last m′ d → resultOf (Machined.Whole m′ d) st′ ns′ ≡ clauseRun mostTokens 0 start s c₀
-      unfolding resultOf behind turnOf
-      ended f = sym (from-here ∙ ap (λ (x : Turn). behind (1023 - i) i s (turnOf x st′ ns′)) f)
+    room : (k : Sight) → Ready m k st ns
+    room k =
+        let w = v .taking .words in
+        let f = v .taking .few in
+        let o = takes-one k in
+        ready st ns (to + 1) (omega (arith, v .taking .frames)) (omega (arith, v .taking .nodes)) (omega arith) m k o (omega arith) (omega arith)
 
-      module _ (f : t ≡ Turn.More m′ d) where
-        onward : Onward s c i (stateOf m st ns) (stateOf m′ st′ ns′) d
-        unfolding turnOf
-        onward = went-on s c i (stateOf m st ns) (stateOf m′ st′ ns′) d (sym e ∙ ap (λ (x : Turn). turnOf x st′ ns′) f)
+    module _ (a : Answer) (e : a ≡ nextToken s c) where
+      stops : (f : Fault) (k : Cursor) → a ≡ Answer.Refused f k → resultOf (Machined.Stopped f) st ns ≡ clauseRun (to - from) from (stateOf m₀ st₀ ns₀) s c₀
+      unfolding resultOf
+      stops f k g =
+          let r = told-refused s c (v .taking .valid-cursor) f k (sym e ∙ g) in
+          sym (from-here ∙ run-stop s c (to - (i + 1)) i (stateOf m st ns) f r)
 
-        again : length st′ ≡ length st → length ns′ ≡ length ns → Inv s c₀ d (i + 1) m′ st′ ns′
-        unfolding behind turnOf
-        again g h =
-            let o = onward in
-            let n : 1023 - i ≡ mostTokens - (i + 1) = omega (arith, v .turning .index) in
-            record {
-              same =
-                  from-here ∙ ap (λ (x : Turn). behind (1023 - i) i s (turnOf x st′ ns′)) f
-                  ∙ ap (λ (k : ℕ). clauseRun k (i + 1) (stateOf m′ st′ ns′) s d) n;
-              turning =
-                  record {
-                    valid-cursor = next-valid s c (v .turning .valid-cursor) (o .token) d (o .end) (o .text) (o .reads) (o .next);
-                    index = omega (arith, v .turning .index, o .few);
-                    frames = g ∙ v .turning .frames;
-                    nodes = h ∙ v .turning .nodes;
-                    words = omega (arith, o .words, v .turning .words);
-                  };
-            }
+      module _ (t : lexer.Token) (d : Cursor) (g : a ≡ Answer.Read t d) where
+        read-there : ReadFrom s c t d
+        read-there = record { reads = sym e ∙ g }
 
-        less : mostTokens - (i + 1) < mostTokens - i
-        less = omega (arith, v .turning .index)
+        module _ (k : Sight) (q : sightOf k ≡ sightFrom s c) (r : Mode) (st′ ns′ : List ℕ) (y : stateOf r st′ ns′ ≡ M.step packed (stateOf m st ns) i (sightOf k)) (b : Bool) (f : b ≡ isEnd (t .kind)) where
+          -- the machine behind the token
+          behind : stateOf r st′ ns′ ≡ M.step packed (stateOf m st ns) i (sightFrom s c)
+          behind = y ∙ ap (M.step packed (stateOf m st ns) i) q
 
-        next-fits : i + 1 < 65536
-        next-fits = omega (arith, v .turning .index)
+          ends : b ≡ true → resultOf (Machined.Whole r d) st′ ns′ ≡ clauseRun (to - from) from (stateOf m₀ st₀ ns₀) s c₀
+          unfolding resultOf
+          ends l =
+              let p = known s c t d (sym e ∙ g) in
+              ap (λ (z : State). finished z d) behind ∙ sym (from-here ∙ run-last s c (to - (i + 1)) i (stateOf m st ns) t d p (sym f ∙ l))
 
-ruleset ways = (room, started, turn-there, stopped, too-many, ended, again, less, next-fits, needs)
+          again : b ≡ false → length st′ ≡ length st → length ns′ ≡ length ns → Inv s c₀ from to m₀ st₀ ns₀ d (i + 1) r st′ ns′
+          again l x u =
+              let p = known s c t d (sym e ∙ g) in
+              let w = rw (← behind) at (step-size packed (stateOf m st ns) i (sightFrom s c)) in
+              record {
+                same =
+                    from-here ∙ run-more s c (to - (i + 1)) i (stateOf m st ns) t d p (sym f ∙ l)
+                    ∙ ap (λ (z : State). clauseRun (to - (i + 1)) (i + 1) z s d) (sym behind);
+                taking =
+                    record {
+                      valid-cursor = next-valid s c (v .taking .valid-cursor) t d (d .offset) (p .text) (p .reads) (p .next);
+                      ahead = omega arith;
+                      few = v .taking .few;
+                      frames = omega (arith, v .taking .frames, x);
+                      nodes = omega (arith, v .taking .nodes, u);
+                      words = omega (arith, w, v .taking .words);
+                    };
+                frames = x ∙ v .frames;
+                nodes = u ∙ v .nodes;
+              }
+
+ruleset ways = (started, pauses, less, next-fits, room, stops, read-there, ends, again, needs)
 
 abbrev Inv-loop : tie.InvT-loop
-Inv-loop text frames₀ nodes₀ mode₀ c₀ index₀ frames nodes mode c index = Inv text c₀ c index mode frames nodes
+Inv-loop text from to frames₀ nodes₀ mode₀ c₀ index₀ frames nodes mode c index = Inv text c₀ from to mode₀ frames₀ nodes₀ c index mode frames nodes
 
 abbrev μ-loop : tie.MeasureT-loop
-μ-loop text frames₀ nodes₀ mode₀ c₀ index₀ frames nodes mode c index = mostTokens - index
+μ-loop text from to frames₀ nodes₀ mode₀ c₀ index₀ frames nodes mode c index = to - index
 
 -- answers
-start-requires : tie.Need-start-requires Inv-loop μ-loop
-start-requires c κs = search ways
-
 loop-holds : tie.Need-loop-holds Inv-loop μ-loop
 loop-holds c = search ways
 
-take-token-requires : tie.Need-take-token-requires Inv-loop μ-loop
-take-token-requires c κs = search ways
+next-token-requires : tie.Need-next-token-requires Inv-loop μ-loop
+next-token-requires c κs = search ways
 
 enum-known-fault : tie.Need-enum-known-fault Inv-loop μ-loop
 enum-known-fault c = search ways
@@ -128,8 +132,17 @@ same-length-2 c = search ways
 returns : tie.Need-returns Inv-loop μ-loop
 returns c = search ways
 
-enum-told : tie.Need-enum-told Inv-loop μ-loop
-enum-told c = search ways
+enum-known-token : tie.Need-enum-known-token Inv-loop μ-loop
+enum-known-token c = search ways
+
+see-token-requires : tie.Need-see-token-requires Inv-loop μ-loop
+see-token-requires c κs = search ways
+
+step-requires : tie.Need-step-requires Inv-loop μ-loop
+step-requires c κs = search ways
+
+is-end-requires : tie.Need-is-end-requires Inv-loop μ-loop
+is-end-requires c κs = search ways
 
 same-length-3 : tie.Need-same-length-3 Inv-loop μ-loop
 same-length-3 c = search ways
@@ -140,8 +153,14 @@ same-length-4 c = search ways
 returns-2 : tie.Need-returns-2 Inv-loop μ-loop
 returns-2 c = search ways
 
-enum-known-last : tie.Need-enum-known-last Inv-loop μ-loop
-enum-known-last c = search ways
+add-index : tie.Need-add-index Inv-loop μ-loop
+add-index c = search ways
+
+loop-less : tie.Need-loop-less Inv-loop μ-loop
+loop-less c = search ways
+
+loop-again : tie.Need-loop-again Inv-loop μ-loop
+loop-again c = search ways
 
 same-length-5 : tie.Need-same-length-5 Inv-loop μ-loop
 same-length-5 c = search ways
@@ -152,40 +171,28 @@ same-length-6 c = search ways
 returns-3 : tie.Need-returns-3 Inv-loop μ-loop
 returns-3 c = search ways
 
-enum-known-more : tie.Need-enum-known-more Inv-loop μ-loop
-enum-known-more c = search ways
-
-add-index : tie.Need-add-index Inv-loop μ-loop
-add-index c = search ways
-
-loop-less : tie.Need-loop-less Inv-loop μ-loop
-loop-less c = search ways
-
-loop-again : tie.Need-loop-again Inv-loop μ-loop
-loop-again c = search ways
-
 pub take-tokens-spec : {M : Type 1} → statement M
 take-tokens-spec =
     tie.close
     (tie.spec
     Inv-loop
     μ-loop
-    start-requires
     loop-holds
-    take-token-requires
+    next-token-requires
     enum-known-fault
     same-length
     same-length-2
     returns
-    enum-told
+    enum-known-token
+    see-token-requires
+    step-requires
+    is-end-requires
     same-length-3
     same-length-4
     returns-2
-    enum-known-last
-    same-length-5
-    same-length-6
-    returns-3
-    enum-known-more
     add-index
     loop-less
-    loop-again)
+    loop-again
+    same-length-5
+    same-length-6
+    returns-3)

@@ -36,7 +36,7 @@ module _ (s : List ℕ) (c : Cursor) (n : ℕ) (ns d : List ℕ) (e : Cursor) wh
       let m = length-out ns n in
       cc (le-leb (2 * length (outOf ns n)) (length d) (omega arith))
 
-twice-fits : (s : List ℕ) (c : Cursor) (n : ℕ) (ns : List ℕ) → Finished s c n ns → n ≤ 1024
+twice-fits : (s : List ℕ) (c : Cursor) (n : ℕ) (ns : List ℕ) → Finished s c n ns → n ≤ 1025
 twice-fits s c n ns w = omega (arith, w .nodes, w .words)
 
 ruleset ways = (no-room, copies, written, twice-fits, needs)
