@@ -39,6 +39,7 @@ ghost use lib.ListN.{length};
 ghost use Rattle.lexer.specs.Cursor.{Valid, moveTo};
 ghost use Rattle.lexer.specs.Refusal.{fault};
 ghost use Rattle.lexer.specs.declared.refusal.Refusal.the-variants.{NoToken, OutOfLimit};
+ghost use Rattle.lexer.specs.declared.token.Answer.{Answer};
 ghost use Rattle.lexer.specs.declared.token.Found.{Found};
 ghost use Rattle.lexer.specs.declared.kind.Plain.{Plain};
 ghost use Rattle.lexer.specs.declared.kind.Value.{Value};
@@ -173,13 +174,14 @@ fn number_value(at: usize, end: usize, numeral: Numeral) -> Plain
     match numeral {
         Numeral::Integer(n) => {
             if n < BEYOND {
-                return Plain::Whole {
+                Plain::Whole {
                     kind: Kind::Number,
                     value: Value::Integer(n),
                     end,
-                };
+                }
+            } else {
+                out_of_limit(at)
             }
-            out_of_limit(at)
         }
         Numeral::Float {
             digits,
@@ -207,12 +209,13 @@ fn whole_number(text: &[u8], at: usize, field: bool) -> Plain
         NumberToken::Whole { numeral, end } => number_value(at, end, numeral),
         NumberToken::Partial { numeral, end } => {
             if field {
-                return number_value(at, end, numeral);
+                number_value(at, end, numeral)
+            } else {
+                Plain::Refused(Fault {
+                    refusal: Refusal::EndOfText,
+                    offset: end,
+                })
             }
-            Plain::Refused(Fault {
-                refusal: Refusal::EndOfText,
-                offset: end,
-            })
         }
     }
 }
@@ -243,9 +246,10 @@ fn plain_number(text: &[u8], at: usize, b: u8) -> Plain
     ensures { λ r. ⌜ r ≡ plainNumber (now (text .entry)) at b ⌝ }
 {
     if is_digit(b) {
-        return whole_number(text, at, true);
+        whole_number(text, at, true)
+    } else {
+        name_token(text, at, b)
     }
-    name_token(text, at, b)
 }
 
 // The one for the call.
@@ -363,15 +367,14 @@ fn quoted_found(text: &[u8], c: Cursor, field: bool, b: u8) -> Found
     ensures { λ r. ⌜ r ≡ found (now (text .entry)) c (quotedLexeme field (now (text .entry)) (c .offset) b) ⌝ }
 {
     if b == b'\'' {
-        return quoted_token(text, c, b'\'', Kind::Name);
+        quoted_token(text, c, b'\'', Kind::Name)
+    } else if field {
+        no_token(c.offset)
+    } else if b == b'"' {
+        quoted_token(text, c, b'"', Kind::String)
+    } else {
+        no_token(c.offset)
     }
-    if field {
-        return no_token(c.offset);
-    }
-    if b == b'"' {
-        return quoted_token(text, c, b'"', Kind::String);
-    }
-    no_token(c.offset)
 }
 
 // The token at the cursor.
@@ -403,6 +406,20 @@ pub(crate) fn read_token(text: &[u8], cursor: Cursor, field: bool) -> Found
     }
 }
 
+// The cursor by its fields: as a whole it would be copied through memory.
+fn accepted(token: Token, next: Cursor) -> Answer
+    ensures { λ r. ⌜ r ≡ Answer.Read token next ⌝ }
+{
+    Answer::Read {
+        token,
+        next: Cursor {
+            offset: next.offset,
+            line: next.line,
+            column: next.column,
+        },
+    }
+}
+
 // What either call answers at a valid cursor.
 fn answer_at(text: &[u8], cursor: Cursor, field: bool) -> Answer
     requires { ⌜ Valid (length (now text)) cursor ⌝ }
@@ -414,7 +431,7 @@ fn answer_at(text: &[u8], cursor: Cursor, field: bool) -> Answer
             token,
             spelling: _,
             next,
-        } => Answer::Read { token, next },
+        } => accepted(token, next),
     }
 }
 

@@ -1,6 +1,6 @@
 -- `lexer::token::answer_at` meets its contract. Assumes nothing.
 use Prim.Native.Nat.{ℕ}
-use mathlib.Core.Path.{_≡_}
+use mathlib.Core.Path.{_≡_, _∙_}
 use mathlib.Core.Bool.{Bool}
 use mathlib.Core.List.{List}
 use borrow.Author.Needs.{needs}
@@ -29,8 +29,8 @@ module _ (s : List ℕ) (c : Cursor) (r : Found) where
     no-token : (w : Fault) → r ≡ Found.Refused w → Answer.Refused w c ≡ answered s c (readLexeme field s (c .offset))
     no-token w g = refused-of (readLexeme field s (c .offset)) f w g
 
-    read : (t : Token) (y : Spelling) (d : Cursor) → r ≡ Found.Whole t y d → Answer.Read t d ≡ answered s c (readLexeme field s (c .offset))
-    read t y d g = read-of (readLexeme field s (c .offset)) f t y d g
+    read : (t : Token) (y : Spelling) (d : Cursor) (a : Answer) → r ≡ Found.Whole t y d → a ≡ Answer.Read t d → a ≡ answered s c (readLexeme field s (c .offset))
+    read t y d a g h = h ∙ read-of (readLexeme field s (c .offset)) f t y d g
 
 ruleset ways = (no-token, read, needs)
 
@@ -44,6 +44,9 @@ enum-known-fault c = search ways
 enum-known-token : tie.Need-enum-known-token
 enum-known-token c = search ways
 
+accepted-requires : tie.Need-accepted-requires
+accepted-requires c κs = search ways
+
 returns : tie.Need-returns
 returns c = search ways
 
@@ -52,4 +55,11 @@ returns-2 c = search ways
 
 pub answer-at-spec : {M : Type 1} → statement M
 answer-at-spec =
-    tie.close (tie.spec read-token-requires enum-known-fault enum-known-token returns returns-2)
+    tie.close
+    (tie.spec
+    read-token-requires
+    enum-known-fault
+    enum-known-token
+    accepted-requires
+    returns
+    returns-2)

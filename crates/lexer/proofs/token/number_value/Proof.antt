@@ -43,9 +43,6 @@ ruleset ways = (integer, too-large, float, too-far, needs)
 enum-known-numeral : tie.Need-enum-known-numeral
 enum-known-numeral c = search ways
 
-returns : tie.Need-returns
-returns c = search ways
-
 out-of-limit-requires : tie.Need-out-of-limit-requires
 out-of-limit-requires c κs = search ways
 
@@ -64,6 +61,9 @@ enum-told c = search ways
 out-of-limit-requires-2 : tie.Need-out-of-limit-requires-2
 out-of-limit-requires-2 c κs = search ways
 
+returns : tie.Need-returns
+returns c = search ways
+
 returns-2 : tie.Need-returns-2
 returns-2 c = search ways
 
@@ -78,13 +78,13 @@ number-value-spec =
     tie.close
     (tie.spec
     enum-known-numeral
-    returns
     out-of-limit-requires
     enum-known-numeral-2
     float-value-requires
     enum-known-v
     enum-told
     out-of-limit-requires-2
+    returns
     returns-2
     returns-3
     returns-4)

@@ -42,11 +42,11 @@ is-digit-requires c κs = search ways
 whole-number-requires : tie.Need-whole-number-requires
 whole-number-requires c κs = search ways
 
-returns : tie.Need-returns
-returns c = search ways
-
 name-token-requires : tie.Need-name-token-requires
 name-token-requires c κs = search ways
+
+returns : tie.Need-returns
+returns c = search ways
 
 returns-2 : tie.Need-returns-2
 returns-2 c = search ways
@@ -54,4 +54,4 @@ returns-2 c = search ways
 pub plain-number-spec : {M : Type 1} → statement M
 plain-number-spec =
     tie.close
-    (tie.spec is-digit-requires whole-number-requires returns name-token-requires returns-2)
+    (tie.spec is-digit-requires whole-number-requires name-token-requires returns returns-2)

@@ -49,23 +49,23 @@ ruleset ways = (begins-single, begins-double, name, in-field, string, none, need
 quoted-token-requires : tie.Need-quoted-token-requires
 quoted-token-requires c κs = search ways
 
-returns : tie.Need-returns
-returns c = search ways
-
 no-token-requires : tie.Need-no-token-requires
 no-token-requires c κs = search ways
-
-returns-2 : tie.Need-returns-2
-returns-2 c = search ways
 
 quoted-token-requires-2 : tie.Need-quoted-token-requires-2
 quoted-token-requires-2 c κs = search ways
 
-returns-3 : tie.Need-returns-3
-returns-3 c = search ways
-
 no-token-requires-2 : tie.Need-no-token-requires-2
 no-token-requires-2 c κs = search ways
+
+returns : tie.Need-returns
+returns c = search ways
+
+returns-2 : tie.Need-returns-2
+returns-2 c = search ways
+
+returns-3 : tie.Need-returns-3
+returns-3 c = search ways
 
 returns-4 : tie.Need-returns-4
 returns-4 c = search ways
@@ -75,10 +75,10 @@ quoted-found-spec =
     tie.close
     (tie.spec
     quoted-token-requires
-    returns
     no-token-requires
-    returns-2
     quoted-token-requires-2
-    returns-3
     no-token-requires-2
+    returns
+    returns-2
+    returns-3
     returns-4)
