@@ -96,11 +96,37 @@ fn starts_operator(first: u8) -> bool
 fn prefix_place(name: ShortName) -> usize
     ensures { λ r. ⌜ PrefixPlace name r ⌝ }
 {
-    let slot = (name.first as usize) + (name.second as usize);
-    PREFIXES[slot % 6] as usize
+    let slot = 2 * (name.first as usize) + 3 * (name.second as usize);
+    PREFIXES[slot % 24] as usize
 }
 
-const PREFIXES: [u8; 6] = [3, 2, 0, 7, 38, 37];
+// Of the names of infix operators only `**` falls into a slot of these.
+const PREFIXES: [u8; 24] = [
+    0,
+    7,
+    0,
+    0,
+    0,
+    0,
+    0,
+    0,
+    0,
+    0,
+    0,
+    2,
+    0,
+    0,
+    0,
+    0,
+    38,
+    0,
+    37,
+    0,
+    0,
+    3,
+    0,
+    0,
+];
 
 // Where the table is looked at for an infix operator.
 fn infix_place(name: ShortName) -> usize
@@ -121,11 +147,17 @@ const INFIXES: [[u8; 8]; 8] = [
     [18, 0, 32, 4, 20, 8, 22, 5],
 ];
 
+// The place of an infix operator, where no name has a prefix role.
+const NO_PREFIX: usize = 0;
+
 // The role that the table's entry at a place gives to a name.
 fn prefix_at(place: usize, name: ShortName) -> Prefix
     requires { ⌜ place < 39 ⌝ }
     ensures { λ r. ⌜ r ≡ prefixIn (entryAt place) (spelt name) ⌝ }
 {
+    if place == NO_PREFIX {
+        return Prefix::Absent;
+    }
     let Operator(first, second, third, priority, kind) = entry(place);
     if !same_name(
         name,

@@ -49,32 +49,40 @@ module _ (o : Operator) (place : ℕ) (n : ShortName) (r : Bool) (there : entryO
   other : not r ≡ true → noPrefix ≡ prefixIn (entryAt place) (spelt n)
   other e = cc (kind-other (o .4) (spelt n) (trimmed (o .0) (o .1) (o .2)) (o .3) (sym (not-true r e) ∙ text))
 
-ruleset ways = (other, needs)
+-- the entry of an infix operator
+nowhere : (place : ℕ) (n : ShortName) → place ≡ 0 → noPrefix ≡ prefixIn (entryAt place) (spelt n)
+unfolding entryAt prefixIn
+nowhere place n e = rw e
 
-returns-2 : tie.Need-returns-2
-returns-2 c = search (same Fx, ways)
+ruleset ways = (nowhere, other, needs)
 
 returns-3 : tie.Need-returns-3
-returns-3 c = search (same Fy, ways)
+returns-3 c = search (same Fx, ways)
 
 returns-4 : tie.Need-returns-4
-returns-4 c = search (same Xfx, ways)
+returns-4 c = search (same Fy, ways)
 
 returns-5 : tie.Need-returns-5
-returns-5 c = search (same Xfy, ways)
+returns-5 c = search (same Xfx, ways)
 
 returns-6 : tie.Need-returns-6
-returns-6 c = search (same Yfx, ways)
+returns-6 c = search (same Xfy, ways)
+
+returns-7 : tie.Need-returns-7
+returns-7 c = search (same Yfx, ways)
 
 -- answers
+returns : tie.Need-returns
+returns c = search ways
+
 entry-requires : tie.Need-entry-requires
 entry-requires c κs = search ways
 
 same-name-requires : tie.Need-same-name-requires
 same-name-requires c κs = search ways
 
-returns : tie.Need-returns
-returns c = search ways
+returns-2 : tie.Need-returns-2
+returns-2 c = search ways
 
 enum-told : tie.Need-enum-told
 enum-told c = search ways
@@ -95,16 +103,17 @@ pub prefix-at-spec : {M : Type 1} → statement M
 prefix-at-spec =
     tie.close
     (tie.spec
+    returns
     entry-requires
     same-name-requires
-    returns
+    returns-2
     enum-told
     enum-told-2
     enum-told-3
     enum-told-4
     enum-told-5
-    returns-2
     returns-3
     returns-4
     returns-5
-    returns-6)
+    returns-6
+    returns-7)

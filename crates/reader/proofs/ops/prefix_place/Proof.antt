@@ -1,6 +1,6 @@
 -- `reader::ops::prefix_place` meets its contract: that its places lead to the right entries is one test over the table of operators, which antt computes.
 -- Assumes nothing.
-use Prim.Native.Nat.{ℕ, _+_, _%_, _<_}
+use Prim.Native.Nat.{ℕ, _+_, _*_, _%_, _<_}
 use mathlib.Core.Path.{_≡_, refl}
 use mathlib.Core.List.{List}
 use native.Mathlib.Omega.{arith}
@@ -15,10 +15,10 @@ use Rattle.reader.proofs.ops.prefix_place.Statement.{statement}
 use Rattle.reader.proofs.ops.prefix_place.Tie as tie
 
 slot : ℕ → ℕ → ℕ → ℕ
-slot a b c = (a + b) % 6
+slot a b c = (2 * a + 3 * b) % 24
 
 places : List ℕ
-places = listed (λ k. placeFor isPrefixEntry slot k 0 operators) 0 6
+places = listed (λ k. placeFor isPrefixEntry slot k 0 operators) 0 24
 
 place : ℕ → ℕ → ℕ → ℕ
 place a b c = getD places (slot a b c) 0
@@ -34,8 +34,14 @@ leads = prefix-placed place lower refl
 cast-slot : tie.Need-cast-slot
 cast-slot c = search needs
 
+mul-slot : tie.Need-mul-slot
+mul-slot c = search needs
+
 cast-slot-2 : tie.Need-cast-slot-2
 cast-slot-2 c = search needs
+
+mul-slot-2 : tie.Need-mul-slot-2
+mul-slot-2 c = search needs
 
 add-slot : tie.Need-add-slot
 add-slot c = search needs
@@ -54,4 +60,4 @@ returns c =
     record { below = lower (n .first) (n .second) (n .third); leads = leads (n .first) (n .second) (n .third) }
 
 pub prefix-place-spec : {M : Type 1} → statement M
-prefix-place-spec = tie.close (tie.spec cast-slot cast-slot-2 add-slot array-read-result cast-result returns)
+prefix-place-spec = tie.close (tie.spec cast-slot mul-slot cast-slot-2 mul-slot-2 add-slot array-read-result cast-result returns)
