@@ -10,6 +10,7 @@ pub mod Theorems
 pub mod Needed
 pub mod Specimens
 pub mod Finding
+pub mod Fronts
 pub mod Stacks
 pub mod Tags
 pub mod Rooms

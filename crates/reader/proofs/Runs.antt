@@ -4,7 +4,8 @@ use native.Mathlib.Omega.{arith}
 use mathlib.Core.Path.{_≡_, refl, sym, _∙_, ap}
 use mathlib.Core.Bool.{Bool, true, false, cond}
 use mathlib.Core.List.{List, [], _∷_}
-use Rattle.lexer.specs.Cursor.{moveTo}
+use lib.ListN.{length}
+use Rattle.lexer.specs.Cursor.{moveTo, valid}
 use Rattle.lexer.specs.Token.{Lexeme, lexeme, refused, readLexeme}
 use Rattle.lexer.specs.declared.cursor.Cursor.{Cursor}
 use Rattle.reader.specs.Token.{Token, terminals}
@@ -16,6 +17,7 @@ use Rattle.reader.specs.Weight.{weight}
 use Rattle.reader.specs.Clause.{mostTokens, tokenIn, isEnd, Gathered, whole, stopped, tooMany, with, onward, gather}
 use Rattle.reader.specs.Gather.{seen, Result, finished, halted, paused, runOn, clauseRun, byTokens, byResult}
 use Rattle.reader.proofs.Size.{step-size}
+use Rattle.reader.proofs.Turns.{next-valid}
 
 -- where a run pauses says nothing of what the call answers
 abbrev anywhere : Result
@@ -95,3 +97,59 @@ module _ (n i : ℕ) (z y : State) (s : List ℕ) (c d : Cursor) where
   pub finished-light : clauseRun n i z s c ≡ finished y d → weight y ≤ weight z + n
   unfolding weightIn
   finished-light e = rw e at (light n i z s c)
+
+  pub paused-light : clauseRun n i z s c ≡ paused y d → weight y ≤ weight z + n
+  unfolding weightIn
+  paused-light e = rw e at (light n i z s c)
+
+-- a run that pauses stands at a valid cursor
+validIn : List ℕ → Result → Bool
+validIn s (finished z d) = true
+validIn s (halted w) = true
+validIn s (paused z d) = valid (length s) d
+
+run-valid : (n i : ℕ) (z : State) (s : List ℕ) (c : Cursor) → valid (length s) c ≡ true → validIn s (clauseRun n i z s c) ≡ true
+unfolding clauseRun runOn validIn
+run-valid zero i z s c v = v
+run-valid (suc n) i z s c v = go (readLexeme false s (c .offset)) refl (λ y d. run-valid n (i + 1) y s d)
+  where
+    pick : (y : State) (d : Cursor) (b : Bool) → validIn s (clauseRun n (i + 1) y s d) ≡ true → validIn s (cond b (finished y d) (clauseRun n (i + 1) y s d)) ≡ true
+    pick y d true h = refl
+    pick y d false h = h
+
+    go : (x : Lexeme) → readLexeme false s (c .offset) ≡ x → ((y : State) (d : Cursor) → valid (length s) d ≡ true → validIn s (clauseRun n (i + 1) y s d) ≡ true)
+        → validIn s (runOn s c i z x (λ y d. clauseRun n (i + 1) y s d)) ≡ true
+    go (refused w) q next = refl
+    go (lexeme t e x) q next =
+        pick (M.step packed z i (seen (tokenIn s t e x))) (moveTo s c e) (isEnd (t .kind))
+        (next (M.step packed z i (seen (tokenIn s t e x))) (moveTo s c e) (next-valid s c v t (moveTo s c e) e x q refl))
+
+pub paused-valid : (n i : ℕ) (z y : State) (s : List ℕ) (c d : Cursor) → valid (length s) c ≡ true → clauseRun n i z s c ≡ paused y d → valid (length s) d ≡ true
+unfolding validIn
+paused-valid n i z y s c d v e = rw e at (run-valid n i z s c v)
+
+-- a run of n tokens, and k more where it pauses
+unfoldable pub goOn : ℕ → ℕ → List ℕ → Result → Result
+goOn k j s (finished z d) = finished z d
+goOn k j s (halted w) = halted w
+goOn k j s (paused z d) = clauseRun k j z s d
+
+pub in-two : (n k t i j : ℕ) (z : State) (s : List ℕ) (c : Cursor) → n + k ≡ t → i + n ≡ j → clauseRun t i z s c ≡ goOn k j s (clauseRun n i z s c)
+unfolding clauseRun runOn goOn
+in-two zero k t i j z s c g h =
+    let e : i ≡ j = omega arith in
+    let f : t ≡ k = omega arith in
+    rw (e, f)
+in-two (suc n) k zero i j z s c g h = absurd (omega arith)
+in-two (suc n) k (suc t) i j z s c g h = go (readLexeme false s (c .offset)) (λ y d. in-two n k t (i + 1) j y s d (omega arith) (omega arith))
+  where
+    pick : (y : State) (d : Cursor) (b : Bool) → clauseRun t (i + 1) y s d ≡ goOn k j s (clauseRun n (i + 1) y s d)
+        → cond b (finished y d) (clauseRun t (i + 1) y s d) ≡ goOn k j s (cond b (finished y d) (clauseRun n (i + 1) y s d))
+    pick y d true e = refl
+    pick y d false e = e
+
+    go : (x : Lexeme) → ((y : State) (d : Cursor) → clauseRun t (i + 1) y s d ≡ goOn k j s (clauseRun n (i + 1) y s d))
+        → runOn s c i z x (λ y d. clauseRun t (i + 1) y s d) ≡ goOn k j s (runOn s c i z x (λ y d. clauseRun n (i + 1) y s d))
+    go (refused w) next = refl
+    go (lexeme u e x) next =
+        pick (M.step packed z i (seen (tokenIn s u e x))) (moveTo s c e) (isEnd (u .kind)) (next (M.step packed z i (seen (tokenIn s u e x))) (moveTo s c e))

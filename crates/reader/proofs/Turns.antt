@@ -47,7 +47,7 @@ module _ (s : List ℕ) (c : Cursor) (v : valid (length s) c ≡ true) where
   next-valid t d e x r m = read-promises false s c t d (answered-there ∙ ap (answered s c) r ∙ ap (Answer.Read t) (sym m)) .next-passes
 
 -- ---- room
-length-frames : (st : List ℕ) (d : ℕ) → length (framesOf st d) ≡ d
+pub length-frames : (st : List ℕ) (d : ℕ) → length (framesOf st d) ≡ d
 unfolding framesOf
 length-frames st zero = refl
 length-frames st (suc d) = ap suc (length-frames st d)

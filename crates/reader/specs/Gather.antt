@@ -5,7 +5,7 @@ use mathlib.Core.Bool.{Bool, true, false, cond}
 use mathlib.Core.Option.{Option, none, some}
 use mathlib.Core.List.{List, [], _∷_}
 use lib.Dec.{leb}
-use lib.ListN.{length}
+use lib.ListN.{length, getD}
 use lib.Seq.{sets}
 use Rattle.lexer.specs.Cursor.{valid, moveTo}
 use Rattle.lexer.specs.Refusal.{fault}
@@ -99,10 +99,32 @@ pub record Taking (s : List ℕ) (c : Cursor) (i to : ℕ) (m : Mode) (st ns : L
   pub nodes : to < length ns
   pub words : weight (stateOf m st ns) ≤ i + 1
 
+-- so many tokens are taken in short arrays first
+abbrev pub fewTokens : ℕ
+fewTokens = 64
+
 pub record Beginning (s : List ℕ) (c : Cursor) (st ns : List ℕ) : Type 0 where
   pub valid-cursor : valid (length s) c ≡ true
-  pub frames : mostTokens < length st
-  pub nodes : mostTokens < length ns
+  pub frames : fewTokens < length st
+  pub nodes : fewTokens < length ns
+
+-- the words of one slice stand at the front of another
+pub record Copied (few all : List ℕ) : Type 0 where
+  pub words : (k : ℕ) → k < length few → getD all k 0 ≡ getD few k 0
+
+-- the machine behind the first tokens, in short slices
+pub record Longer (s : List ℕ) (c : Cursor) (m : Mode) (d : Cursor) (st ns : List ℕ) : Type 0 where
+  pub valid-cursor : valid (length s) c ≡ true
+  pub valid-next : valid (length s) d ≡ true
+  pub frames : length st ≡ fewTokens + 1
+  pub nodes : length ns ≡ fewTokens + 1
+  pub words : weight (stateOf m st ns) ≤ fewTokens + 1
+
+-- and long ones beside them
+pub record GoingOn (s : List ℕ) (d : Cursor) (m : Mode) (st ns fs os : List ℕ) : Type 0 where
+  pub longer : Longer s d m d st ns
+  pub frames : mostTokens < length fs
+  pub nodes : mostTokens < length os
 
 -- ---- the whole call
 -- an answer, and what is left in the tree slice

@@ -22,7 +22,7 @@ use lexer::next_token_text;
 ghost use mathlib.Core.Path.{_≡_};
 ghost use mathlib.Core.Bool.{true};
 ghost use mathlib.Core.Option.{some};
-ghost use Prim.Native.Nat.{_-_};
+ghost use Prim.Native.Nat.{_-_, _≤_};
 ghost use lib.ListN.{length};
 ghost use Rattle.lexer.specs.Cursor.{valid};
 ghost use Rattle.lexer.specs.Refusal.{fault};
@@ -31,7 +31,7 @@ ghost use Rattle.reader.specs.Roles.{rolesOf};
 ghost use Rattle.reader.specs.Machine as M;
 ghost use Rattle.reader.specs.Layout.{sightOf, stateOf, outOf};
 ghost use Rattle.reader.specs.Clause.{mostTokens, isEnd, clauseTokens, firstOffset, Outcome};
-ghost use Rattle.reader.specs.Gather.{tokenFrom, sightFrom, clauseRun, resultOf, leaves, nodesOf, byNodes, byTokens, ReadFrom, NameFrom, QuotedFrom, Taking, Beginning, Finished, Finishing};
+ghost use Rattle.reader.specs.Gather.{fewTokens, tokenFrom, sightFrom, clauseRun, resultOf, leaves, nodesOf, byNodes, byTokens, byResult, ReadFrom, NameFrom, QuotedFrom, Taking, Beginning, Copied, GoingOn, Longer, Finished, Finishing};
 ghost use Rattle.reader.specs.declared.clause.ClauseAnswer.{ClauseAnswer};
 
 pub enum ClauseAnswer {
@@ -248,29 +248,99 @@ fn finish_clause(
     }
 }
 
-// The most tokens that a clause may have, its end mark among them.
-const MOST: u16 = 1024;
+// So many tokens are taken in short arrays first, the fast path: to fill long ones with zeros takes longer than to read a short clause.
+const FEW: u16 = 64;
 
 // The tokens from the first on.
 fn first_tokens(text: &[u8], cursor: Cursor, frames: &mut [u64], nodes: &mut [u32]) -> Machined
     requires { ⌜ Beginning (now text) cursor (now frames) (now nodes) ⌝ }
-    ensures { λ r. ⌜ resultOf r (now (frames .exit)) (now (nodes .exit)) ≡ clauseRun mostTokens 0 M.start (now (text .entry)) cursor ⌝ }
+    ensures { λ r. ⌜ resultOf r (now (frames .exit)) (now (nodes .exit)) ≡ clauseRun fewTokens 0 M.start (now (text .entry)) cursor ⌝ }
 {
     let mode = start(frames, nodes);
-    take_tokens(text, cursor, 0, MOST, mode, frames, nodes)
+    take_tokens(text, cursor, 0, FEW, mode, frames, nodes)
 }
 
-// The clause at a valid cursor. The machine takes a word for each token at most, and one before the first.
+// The short array's words stand at the front of the long one.
+fn copy_frames(few: &[u64], frames: &mut [u64])
+    requires { ⌜ length (now few) ≤ length (now frames) ⌝ }
+    ensures { λ r. ⌜ Copied (now (few .entry)) (now (frames .exit)) ⌝ }
+{
+    let mut k: usize = 0;
+    while k < few.len() {
+        frames[k] = few[k];
+        k += 1;
+    }
+}
+
+fn copy_nodes(few: &[u32], nodes: &mut [u32])
+    requires { ⌜ length (now few) ≤ length (now nodes) ⌝ }
+    ensures { λ r. ⌜ Copied (now (few .entry)) (now (nodes .exit)) ⌝ }
+{
+    let mut k: usize = 0;
+    while k < few.len() {
+        nodes[k] = few[k];
+        k += 1;
+    }
+}
+
+// The most tokens that a clause may have, its end mark among them.
+const MOST: u16 = 1024;
+
+// The tokens behind those that the short arrays served, with the machine there.
+fn more_tokens(
+    text: &[u8],
+    c: Cursor,
+    mode: Mode,
+    held: &[u64],
+    out: &[u32],
+    frames: &mut [u64],
+    nodes: &mut [u32],
+) -> Machined
+    requires { ⌜ GoingOn (now text) c mode (now held) (now out) (now frames) (now nodes) ⌝ }
+    ensures { λ r. ⌜ resultOf r (now (frames .exit)) (now (nodes .exit)) ≡ clauseRun (mostTokens - fewTokens) fewTokens (stateOf mode (now (held .entry)) (now (out .entry))) (now (text .entry)) c ⌝ }
+{
+    copy_frames(held, frames);
+    copy_nodes(out, nodes);
+    take_tokens(text, c, FEW, MOST, mode, frames, nodes)
+}
+
+// A clause of more tokens than the short arrays served. The machine takes a word for each token at most, and one before the first.
+fn long_clause(
+    text: &[u8],
+    cursor: Cursor,
+    mode: Mode,
+    c: Cursor,
+    held: &[u64],
+    out: &[u32],
+    tree: &mut [u16],
+) -> ClauseAnswer
+    requires { ⌜ Longer (now text) cursor mode c (now held) (now out) ⌝ }
+    ensures { λ r. ⌜ leaves r (now (tree .exit)) ≡ byResult (now (text .entry)) cursor (now (tree .entry)) (clauseRun (mostTokens - fewTokens) fewTokens (stateOf mode (now (held .entry)) (now (out .entry))) (now (text .entry)) c) ⌝ }
+{
+    let mut frames = [0u64; 1025];
+    let mut nodes = [0u32; 1025];
+    match more_tokens(text, c, mode, held, out, &mut frames, &mut nodes) {
+        Machined::Stopped(fault) => ClauseAnswer::Refused { fault, cursor },
+        Machined::Paused { mode: _, next: _ } => {
+            clause_refused(text, cursor, Refusal::TooManyTokens)
+        }
+        Machined::Whole { mode: last, next } => {
+            finish_clause(text, cursor, last, next, &frames, &nodes, tree)
+        }
+    }
+}
+
+// The clause at a valid cursor.
 fn clause_at(text: &[u8], cursor: Cursor, tree: &mut [u16]) -> ClauseAnswer
     requires { ⌜ valid (length (now text)) cursor ≡ true ⌝ }
     ensures { λ r. ⌜ leaves r (now (tree .exit)) ≡ byTokens (now (text .entry)) cursor (now (tree .entry)) (clauseTokens (now (text .entry)) cursor) ⌝ }
 {
-    let mut frames = [0u64; 1025];
-    let mut nodes = [0u32; 1025];
+    let mut frames = [0u64; 65];
+    let mut nodes = [0u32; 65];
     match first_tokens(text, cursor, &mut frames, &mut nodes) {
         Machined::Stopped(fault) => ClauseAnswer::Refused { fault, cursor },
-        Machined::Paused { mode: _, next: _ } => {
-            clause_refused(text, cursor, Refusal::TooManyTokens)
+        Machined::Paused { mode, next } => {
+            long_clause(text, cursor, mode, next, &frames, &nodes, tree)
         }
         Machined::Whole { mode, next } => {
             finish_clause(text, cursor, mode, next, &frames, &nodes, tree)

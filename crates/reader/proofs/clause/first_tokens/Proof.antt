@@ -9,8 +9,7 @@ use Rattle.lexer.specs.declared.cursor.Cursor.{Cursor}
 use Rattle.reader.specs.Machine.{State, size, start}
 use Rattle.reader.specs.Weight.{sizes, weight}
 use Rattle.reader.specs.Layout.{stateOf, Room}
-use Rattle.reader.specs.Clause.{mostTokens}
-use Rattle.reader.specs.Gather.{Result, clauseRun, Taking, Beginning}
+use Rattle.reader.specs.Gather.{fewTokens, Result, clauseRun, Taking, Beginning}
 use Rattle.reader.specs.declared.machine.Mode.{Mode}
 use Rattle.reader.proofs.clause.first_tokens.Statement.{statement}
 use Rattle.reader.proofs.clause.first_tokens.Tie as tie
@@ -19,7 +18,7 @@ room : (s : List ℕ) (c : Cursor) (st ns : List ℕ) → Beginning s c st ns �
 room s c st ns w = record { frames = omega (arith, w .frames); nodes = omega (arith, w .nodes) }
 
 module _ (s : List ℕ) (c : Cursor) (m : Mode) (st ns : List ℕ) (e : stateOf m st ns ≡ start) where
-  taking : (st₀ : List ℕ) → Beginning s c st₀ ns → length st ≡ length st₀ → Taking s c 0 mostTokens m st ns
+  taking : (st₀ : List ℕ) → Beginning s c st₀ ns → length st ≡ length st₀ → Taking s c 0 fewTokens m st ns
   unfolding weight sizes size
   taking st₀ w l =
       record {
@@ -31,8 +30,8 @@ module _ (s : List ℕ) (c : Cursor) (m : Mode) (st ns : List ℕ) (e : stateOf 
         words = rw e (omega arith);
       }
 
-  ran : (r : Result) → r ≡ clauseRun mostTokens 0 (stateOf m st ns) s c → r ≡ clauseRun mostTokens 0 start s c
-  ran r f = f ∙ ap (λ (z : State). clauseRun mostTokens 0 z s c) e
+  ran : (r : Result) → r ≡ clauseRun fewTokens 0 (stateOf m st ns) s c → r ≡ clauseRun fewTokens 0 start s c
+  ran r f = f ∙ ap (λ (z : State). clauseRun fewTokens 0 z s c) e
 
 ruleset ways = (room, taking, ran, needs)
 
