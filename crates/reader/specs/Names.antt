@@ -42,7 +42,7 @@ entryAs Fy x p = prefixOp x (fy p)
 entryAs Fx x p = prefixOp x (fx p)
 
 abbrev pub entryOf : Operator → Entry
-entryOf o = entryAs (o .4) (trimmed (o .0) (o .1) (o .2)) (o .3)
+entryOf o = entryAs (o .3) (trimmed (o .0) (o .1) (o .2)) (o .4)
 
 unfoldable pub entryAt : ℕ → Entry
 entryAt place = getD operators place (infixOp [] (xfx 0))

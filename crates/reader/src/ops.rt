@@ -158,7 +158,7 @@ fn prefix_at(place: usize, name: ShortName) -> Prefix
     if place == NO_PREFIX {
         return Prefix::Absent;
     }
-    let Operator(first, second, third, priority, kind) = entry(place);
+    let Operator(first, second, third, kind, priority) = entry(place);
     if !same_name(
         name,
         ShortName {
@@ -182,7 +182,7 @@ fn infix_at(place: usize, name: ShortName) -> Infix
     requires { ⌜ place < 39 ⌝ }
     ensures { λ r. ⌜ r ≡ infixIn (entryAt place) (spelt name) ⌝ }
 {
-    let Operator(first, second, third, priority, kind) = entry(place);
+    let Operator(first, second, third, kind, priority) = entry(place);
     if !same_name(
         name,
         ShortName {

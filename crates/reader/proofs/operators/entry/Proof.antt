@@ -13,7 +13,7 @@ use Rattle.reader.proofs.operators.entry.Tie as tie
 
 -- an entry of 01's table as the code writes it
 made : OperatorKind → List ℕ → ℕ → Operator
-made k x p = record { 0 = byBytes (λ a b c. a) x; 1 = byBytes (λ a b c. b) x; 2 = byBytes (λ a b c. c) x; 3 = p; 4 = k }
+made k x p = record { 0 = byBytes (λ a b c. a) x; 1 = byBytes (λ a b c. b) x; 2 = byBytes (λ a b c. c) x; 3 = k; 4 = p }
 
 coded : Entry → Operator
 coded (prefixOp x (fx p)) = made Fx x p

@@ -42,12 +42,12 @@ kind-other Xfy x y p e = refl
 kind-other Yfx x y p e = refl
 
 module _ (k : OperatorKind) (o : Operator) (place : ℕ) (n : ShortName) (r : Bool) (there : entryOf o ≡ entryAt place) (text : r ≡ sameText (spelt n) (trimmed (o .0) (o .1) (o .2))) where
-  same : not r ≡ false → o .4 ≡ k → roleAs k (o .3) ≡ prefixIn (entryAt place) (spelt n)
-  same e f = cc (kind-tells k (spelt n) (trimmed (o .0) (o .1) (o .2)) (o .3) (sym (not-false r e) ∙ text))
+  same : not r ≡ false → o .3 ≡ k → roleAs k (o .4) ≡ prefixIn (entryAt place) (spelt n)
+  same e f = cc (kind-tells k (spelt n) (trimmed (o .0) (o .1) (o .2)) (o .4) (sym (not-false r e) ∙ text))
 
 module _ (o : Operator) (place : ℕ) (n : ShortName) (r : Bool) (there : entryOf o ≡ entryAt place) (text : r ≡ sameText (spelt n) (trimmed (o .0) (o .1) (o .2))) where
   other : not r ≡ true → noPrefix ≡ prefixIn (entryAt place) (spelt n)
-  other e = cc (kind-other (o .4) (spelt n) (trimmed (o .0) (o .1) (o .2)) (o .3) (sym (not-true r e) ∙ text))
+  other e = cc (kind-other (o .3) (spelt n) (trimmed (o .0) (o .1) (o .2)) (o .4) (sym (not-true r e) ∙ text))
 
 -- the entry of an infix operator
 nowhere : (place : ℕ) (n : ShortName) → place ≡ 0 → noPrefix ≡ prefixIn (entryAt place) (spelt n)
