@@ -1,7 +1,7 @@
 //! What is timed: four ways to read a text from its start to its end.
 use crate::cut::Batch;
 use crate::model::LONGEST_TEXT;
-use crate::thrinvage::{self, Cursor, LARGEST_TREE, Part, Refusal};
+use crate::thrinvage::{self, Cursor, LARGEST_TREE, Part, Refusal, Scanner};
 use oracle::api::Machine;
 use std::hint::black_box;
 
@@ -49,9 +49,9 @@ impl Reader {
 }
 
 fn tokens(text: &[u8]) -> usize {
-    let (mut at, mut count) = (Cursor::default(), 0);
-    while let Ok(token) = thrinvage::next_token(text, at) {
-        at = black_box(&token).next;
+    let (mut scanner, mut count) = (Scanner::new(text), 0);
+    while scanner.advance().is_ok() {
+        black_box(&scanner);
         count += 1;
     }
     count

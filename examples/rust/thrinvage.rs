@@ -205,22 +205,51 @@ impl RawClause {
     }
 }
 
+/// Reads a text token by token and keeps the last one where the call put it: the fastest way through a text, since nothing is copied.
+pub struct Scanner<'t> {
+    text: &'t [u8],
+    raw: RawToken,
+}
+
+impl<'t> Scanner<'t> {
+    pub fn new(text: &'t [u8]) -> Scanner<'t> {
+        Scanner { text, raw: RawToken::default() }
+    }
+
+    /// To the next token. A refusal leaves the last one as it was.
+    pub fn advance(&mut self) -> Result<(), Refusal> {
+        let RawToken { offset, line, column, .. } = self.raw;
+        let (text, raw) = (self.text, &mut self.raw);
+        // SAFETY: the pointers are of a slice, with its length, and of a field.
+        let number = unsafe { thrinvage_next_token(text.as_ptr(), text.len(), offset as usize, line as usize, column as usize, raw) };
+        unless_refused(number, self.raw.refused_at, || ())
+    }
+
+    /// The last token; before the first one it is none.
+    pub fn token(&self) -> Token {
+        self.raw.token()
+    }
+}
+
 /// The tokens of a text, and last the refusal that ended it: refusal 1 at the text's length where nothing but layout was left.
 pub struct Tokens<'t> {
-    text: &'t [u8],
-    at: Option<Cursor>,
+    scanner: Scanner<'t>,
+    ended: bool,
 }
 
 pub fn tokens(text: &[u8]) -> Tokens<'_> {
-    Tokens { text, at: Some(Cursor::default()) }
+    Tokens { scanner: Scanner::new(text), ended: false }
 }
 
 impl Iterator for Tokens<'_> {
     type Item = Result<Token, Refusal>;
 
     fn next(&mut self) -> Option<Self::Item> {
-        let read = next_token(self.text, self.at?);
-        self.at = read.as_ref().ok().map(|token| token.next);
-        Some(read)
+        if self.ended {
+            return None;
+        }
+        let read = self.scanner.advance();
+        self.ended = read.is_err();
+        Some(read.map(|()| self.scanner.token()))
     }
 }
