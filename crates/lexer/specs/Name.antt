@@ -45,7 +45,7 @@ variableToken s at = runToken Variable (alphanumerics s (at + 1))
 abbrev pub graphicToken : List ℕ → ℕ → Plain
 graphicToken s at = runToken Name (graphics s (at + 1))
 
--- 6.4.2: the name that is the solo character x, from `at` to e
+-- 6.4.2: cut or semicolon, the solo characters x that are names, from `at` to e
 abbrev pub soloName : ℕ → ℕ → ℕ → Plain
 soloName at e x =
     cond (eqb x cut) (Plain.Whole Name Nothing e)
@@ -56,7 +56,5 @@ soloName at e x =
 unfoldable pub nameToken : List ℕ → ℕ → ℕ → Plain
 nameToken s at x =
     cond (is smallLetter x) (runToken Name (alphanumerics s (at + 1)))
-    (cond (is graphicTokenChar x) (runToken Name (graphics s (at + 1)))
-    (cond (eqb x cut) (Plain.Whole Name Nothing (at + 1))
-    (cond (eqb x semicolon) (Plain.Whole Name Nothing (at + 1))
-    (Plain.Refused (fault NoToken at)))))
+    (cond (is graphicTokenChar x) (graphicToken s at)
+    (soloName at (at + 1) x))
