@@ -248,7 +248,7 @@ fn finish_clause(
     }
 }
 
-// So many tokens are taken in short arrays first, the fast path: to fill long ones with zeros takes longer than to read a short clause.
+// So many tokens are taken in short arrays first, the fast path: to fill long ones with zeros takes as long as to read five tokens.
 const FEW: u16 = 64;
 
 // The tokens from the first on.
