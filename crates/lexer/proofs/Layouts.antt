@@ -5,26 +5,29 @@ use mathlib.Core.List.{List, [], _∷_}
 use Prim.Native.Nat.{ℕ, zero, suc, _+_, _-_, _<_, _≤_}
 use native.Mathlib.Nat.{add-zero}
 use native.Mathlib.Omega.{arith}
-use borrow.Author.Tests.{eq-eqb, ne-eqb, eqb-false}
+use borrow.Author.Tests.{eq-eqb, ne-eqb, eqb-true, eqb-false}
 use lib.Dec.{eqb}
-use lib.ListN.{length, drop, length-drop}
-use Rattle.lexer.specs.Chars.{is, layoutChar, newline, percent, star, slash}
-use Rattle.lexer.specs.Cursor.{moveTo, Valid}
+use lib.ListN.{length, getD, drop, length-drop}
+use Rattle.lexer.specs.Chars.{is, classOf, layoutChar, newline, space, percent, star, slash}
+use Rattle.lexer.specs.Cursor.{moveTo, along, Valid, Along}
 use Rattle.lexer.specs.Items.{stop, on, same}
-use Rattle.lexer.specs.Layout.{singleLineComment, unclosed, commentText, commentOpened, bracketedComment, slashed, layoutTextOf, layoutText, layoutTurn, layoutTexts, ended, layoutEnd, moved}
+use Rattle.lexer.specs.Layout.{singleLineComment, unclosed, commentText, commentOpened, bracketedComment, slashed, layoutTextOf, layoutText, layoutTurn, layoutTexts, ended, layoutEnd, moved, stepped, layoutTo}
 use Rattle.lexer.specs.Look.{front, needed, lookahead}
 use Rattle.lexer.specs.Refusal.{fault}
+use Rattle.lexer.specs.Stretch.{inStretch, stretchEnd}
 use Rattle.lexer.specs.declared.refusal.Fault.{Fault}
 use Rattle.lexer.specs.declared.chars.Look.{Look}
 use Rattle.lexer.specs.declared.cursor.Cursor.{Cursor}
 use Rattle.lexer.specs.declared.cursor.Moved.{Moved}
 use Rattle.lexer.specs.declared.cursor.Scan.{Scan}
 use Rattle.lexer.specs.declared.cursor.Scan.the-variants.{Stop, Refused}
-use Rattle.lexer.proofs.Cursors.{move-here, move-offset, move-valid}
+use Rattle.lexer.specs.declared.layout.Layout.{Layout}
+use Rattle.lexer.proofs.Cursors.{NoNewline, can-move-along, move-along, move-here, move-offset, move-valid}
 use Rattle.lexer.proofs.Items.{Carries, items-stop, items-on, items-hold}
 use Rattle.lexer.proofs.Looks.{look-byte}
 use Rattle.lexer.proofs.Scans.{Between, choice, wider, past-ends, moved-by}
-use Rattle.lexer.proofs.Steps.{drop-end}
+use Rattle.lexer.proofs.Steps.{drop-at, drop-end}
+use Rattle.lexer.proofs.Stretches.{along-stretch, stretch-ahead, stretch-inside, stretch-bytes, in-stretch}
 
 -- ---- where one layout text ends
 module _ (s : List ℕ) where
@@ -124,61 +127,117 @@ pub before-between : (lo hi : ℕ) (r : Scan) → Before lo hi r → Between lo 
 before-between lo hi (Stop e) h = omega arith
 before-between lo hi (Refused w) h = tt
 
--- ---- the sequence from a cursor, by what one layout text came to
-module _ (s : List ℕ) (c : Cursor) (v : Valid (length s) c) where
-  pub layout-refused : (w : Fault) → moved s c (layoutText s (c .offset)) ≡ Moved.Refused w → moved s c (layoutEnd s (c .offset)) ≡ Moved.Refused w
-  unfolding moved
-  layout-refused w e = go (layoutText s (c .offset)) refl e
+-- what ends behind the cursor, as a comment does, is layout up to there
+pub stepped-ahead : (s : List ℕ) (c : Cursor) (hi : ℕ) (r : Scan) → Between (c .offset + 1) hi r → stepped s c r ≡ layoutTo (moved s c r)
+unfolding stepped moved
+stepped-ahead s c hi (Stop e) b = cc (ne-eqb e (c .offset) (λ h. omega (arith, b .0)))
+stepped-ahead s c hi (Refused w) b = refl
+
+-- ---- the sequence from a cursor
+-- from d, further on, it ends where it ends from c
+pub record Later (s : List ℕ) (c d : Cursor) : Type 0 where
+  pub same : moved s c (layoutEnd s (c .offset)) ≡ moved s d (layoutEnd s (d .offset))
+  pub valid : Valid (length s) d
+  pub ahead : c .offset ≤ d .offset
+
+module _ (s : List ℕ) (c : Cursor) where
+  pub later-here : Valid (length s) c → Later s c c
+  later-here v = record { same = refl; valid = v; ahead = omega arith }
+
+  pub later-on : (d e : Cursor) → Later s c d → Later s d e → Later s c e
+  later-on d e p q = record { same = p .same ∙ q .same; valid = q .valid; ahead = omega (arith, p .ahead, q .ahead) }
+
+  -- the cursor d at e, from where layout ends where it ends from c
+  later : Valid (length s) c → (e : ℕ) → c .offset ≤ e → e ≤ length s → layoutEnd s (c .offset) ≡ layoutEnd s e → (d : Cursor) → d ≡ moveTo s c e → Later s c d
+  later v e h k q d m =
+      let o : d .offset ≡ e = ap (λ (x : Cursor). x .offset) m ∙ move-offset s c e h k in
+      let b = before-between e (length s) (layoutEnd s e) (layout-ends s e) in
+      record {
+        same =
+            ap (moved s c) q ∙ moved-by s c e (layoutEnd s e) h b
+            ∙ ap (λ (x : Cursor). moved s x (layoutEnd s e)) (sym m) ∙ ap (λ (x : ℕ). moved s d (layoutEnd s x)) (sym o);
+        valid = rw m (move-valid s c e h k v);
+        ahead = omega arith;
+      }
+
+  -- ---- by what one layout text came to
+  record Ends (d : Cursor) : Type 0 where
+    end : ℕ
+    text : layoutText s (c .offset) ≡ Stop end
+    there : d ≡ moveTo s c end
+    ahead : c .offset < end
+    inside : end ≤ length s
+
+  -- what each outcome tells of the text
+  abbrev Came : Layout → Type 0
+  Came (Layout.To d) = Ends d
+  Came Layout.Absent = layoutText s (c .offset) ≡ Stop (c .offset)
+  Came (Layout.Refused w) = layoutText s (c .offset) ≡ Refused w
+
+  came : (r : Scan) → layoutText s (c .offset) ≡ r → Came (stepped s c r)
+  unfolding stepped
+  came (Refused w) q = q
+  came (Stop e) q = go (eqb e (c .offset)) refl
     where
-      go : (r : Scan) → layoutText s (c .offset) ≡ r → moved s c r ≡ Moved.Refused w → moved s c (layoutEnd s (c .offset)) ≡ Moved.Refused w
-      go (Stop x) q f = cc
-      go (Refused x) q f = let k = refused-there s (c .offset) x q in cc
+      go : (t : Bool) → eqb e (c .offset) ≡ t → Came (cond t Layout.Absent (Layout.To (moveTo s c e)))
+      go true g = q ∙ ap Stop (eqb-true e (c .offset) g)
+      go false g =
+          let b : (c .offset ≤ e) × (e ≤ length s) = rw q at (layout-text-ends s (c .offset)) in
+          record { end = e; text = q; there = refl; ahead = (let n = eqb-false e (c .offset) g in omega (arith, n, b .0)); inside = b .1 }
 
-  module _ (d : Cursor) (e : moved s c (layoutText s (c .offset)) ≡ Moved.To d) where
-    -- what a text that was read tells: where it ends
-    record Ends : Type 0 where
-      end : ℕ
-      text : layoutText s (c .offset) ≡ Stop end
-      there : d ≡ moveTo s c end
-      from : c .offset ≤ end
-      to : end ≤ length s
-      offset : d .offset ≡ end
+  told : (r : Layout) → stepped s c (layoutText s (c .offset)) ≡ r → Came r
+  told r e = rw e at (came (layoutText s (c .offset)) refl)
 
-    told : Ends
-    unfolding moved
-    told = go (layoutText s (c .offset)) refl e
-      where
-        go : (r : Scan) → layoutText s (c .offset) ≡ r → moved s c r ≡ Moved.To d → Ends
-        go (Refused x) q f = let z : _≡_ {A = ℕ} 0 1 = cc in absurd (omega arith)
-        go (Stop x) q f =
-            let b : (c .offset ≤ x) × (x ≤ length s) = rw q at (layout-text-ends s (c .offset)) in
-            let t : d ≡ moveTo s c x = cc in
-            record {
-              end = x;
-              text = q;
-              there = t;
-              from = b .0;
-              to = b .1;
-              offset = ap (λ (y : Cursor). y .offset) t ∙ move-offset s c x (b .0) (b .1);
-            }
+  pub layout-refused : (w : Fault) → stepped s c (layoutText s (c .offset)) ≡ Layout.Refused w → moved s c (layoutEnd s (c .offset)) ≡ Moved.Refused w
+  unfolding moved
+  layout-refused w e = ap (moved s c) (refused-there s (c .offset) w (told (Layout.Refused w) e))
 
-    pub layout-none : d .offset ≡ c .offset → moved s c (layoutEnd s (c .offset)) ≡ Moved.To c
-    unfolding moved
-    layout-none h =
-        let t = told in
-        let k : t .end ≡ c .offset = sym (t .offset) ∙ h in
-        ap (moved s c) (stops-there s (c .offset) (t .text ∙ ap Stop k)) ∙ ap Moved.To (move-here s c)
+  pub layout-none : stepped s c (layoutText s (c .offset)) ≡ Layout.Absent → moved s c (layoutEnd s (c .offset)) ≡ Moved.To c
+  unfolding moved
+  layout-none e = ap (moved s c) (stops-there s (c .offset) (told Layout.Absent e)) ∙ ap Moved.To (move-here s c)
 
-    pub layout-more : (d .offset ≡ c .offset → ⊥) → moved s c (layoutEnd s (c .offset)) ≡ moved s d (layoutEnd s (d .offset))
-    layout-more n =
-        let t = told in
-        let k = goes-on s (c .offset) (t .end) (t .text) (λ h. n (t .offset ∙ h)) in
-        let b = before-between (t .end) (length s) (layoutEnd s (t .end)) (layout-ends s (t .end)) in
-        ap (moved s c) k ∙ moved-by s c (t .end) (layoutEnd s (t .end)) (t .from) b
-        ∙ ap (λ (x : Cursor). moved s x (layoutEnd s (t .end))) (sym (t .there)) ∙ ap (λ (x : ℕ). moved s d (layoutEnd s x)) (sym (t .offset))
+  module _ (d : Cursor) (e : stepped s c (layoutText s (c .offset)) ≡ Layout.To d) where
+    pub layout-more : Valid (length s) c → Later s c d
+    layout-more v =
+        let t = told (Layout.To d) e in
+        let h : c .offset ≤ t .end = omega (arith, t .ahead) in
+        later v (t .end) h (t .inside) (goes-on s (c .offset) (t .end) (t .text) (λ n. omega (arith, t .ahead))) d (t .there)
 
-    pub layout-valid : Valid (length s) d
-    layout-valid = let t = told in rw (t .there) (move-valid s c (t .end) (t .from) (t .to) v)
+    pub layout-ahead : c .offset < d .offset
+    layout-ahead =
+        let t = told (Layout.To d) e in
+        let o = ap (λ (x : Cursor). x .offset) (t .there) ∙ move-offset s c (t .end) (omega (arith, t .ahead)) (t .inside) in
+        omega (arith, t .ahead)
 
-    pub layout-less : (d .offset ≡ c .offset → ⊥) → length s - d .offset < length s - c .offset
-    layout-less n = let t = told in omega (arith, n, t .offset, t .from, t .to)
+-- ---- spaces, each of which is a layout text
+abbrev pub spacesEnd : List ℕ → ℕ → ℕ
+spacesEnd s at = stretchEnd space space 0 0 s at
+
+module _ (s : List ℕ) where
+  past-space : (i : ℕ) → i < length s → inStretch space space 0 0 (getD s i 0) ≡ true → layoutEnd s i ≡ layoutEnd s (i + 1)
+  unfolding front needed classOf layoutTextOf
+  past-space i h e =
+      let w = in-stretch space space 0 0 (getD s i 0) e in
+      let x : getD s i 0 ≡ space = omega (arith, w .from, w .to) in
+      goes-on s i (i + 1) (cc (drop-at s i h)) (λ n. omega arith)
+
+  module _ (c : Cursor) (v : Valid (length s) c) (at : ℕ) (q : at ≡ spacesEnd s (c .offset)) where
+    ahead : c .offset ≤ at
+    ahead = rw q (stretch-ahead space space 0 0 s (c .offset))
+
+    inside : at ≤ length s
+    inside = rw q (stretch-inside space space 0 0 s (c .offset) (v .offset))
+
+    -- a space is no newline
+    plain : NoNewline s (c .offset) at
+    plain i h l =
+        let w = in-stretch space space 0 0 (getD s i 0) (stretch-bytes space space 0 0 s (c .offset) i h (rw q at l)) in
+        λ n. omega (arith, w .from)
+
+    pub spaces-along : Along c at
+    spaces-along = can-move-along (length s) c v at ahead inside
+
+    pub past-spaces : (d : Cursor) → d ≡ along c (at - c .offset) → Later s c d
+    past-spaces d m =
+        let k : layoutEnd s (c .offset) ≡ layoutEnd s at = along-stretch (layoutEnd s) space space 0 0 s past-space (c .offset) ∙ ap (layoutEnd s) (sym q) in
+        later s c v at ahead inside k d (m ∙ move-along s c at ahead inside plain)

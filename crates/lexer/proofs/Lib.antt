@@ -16,6 +16,7 @@ pub mod Spans
 pub mod Specimens
 pub mod Spellings
 pub mod Steps
+pub mod Stretches
 pub mod Table
 pub mod TextCalls
 pub mod Texts

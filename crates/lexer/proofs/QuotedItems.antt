@@ -4,15 +4,16 @@ use mathlib.Core.Bool.{Bool, true, false, cond}
 use mathlib.Core.List.{List, [], _∷_}
 use Prim.Native.Nat.{ℕ, _+_, _<_, _≤_}
 use native.Mathlib.Omega.{arith}
-use borrow.Author.Tests.{eqb-true, eqb-false}
+use borrow.Author.Tests.{eqb-true, eqb-false, ne-eqb}
 use lib.Dec.{eqb, leb}
 use lib.ListN.{length, getD}
-use Rattle.lexer.specs.Chars.{among, tab, newline, backslash, smallX}
+use Rattle.lexer.specs.Chars.{among, tab, newline, space, backslash, smallX}
 use Rattle.lexer.specs.Cursor.{moveTo, Valid}
 use Rattle.lexer.specs.Digits.{isDigit, digitsAt}
 use Rattle.lexer.specs.Items.{stop, on, same}
 use Rattle.lexer.specs.Look.{front, needed, lookahead}
 use Rattle.lexer.specs.Quoted.{escapeOf, coded, closed, numericEscape, escapeTo, escape, quoteTo, itemTo, quotedItem, Quoted, whole, refused, withChar, outOfLimit, itemTurn, quotedTurn, unended, decode, measured, Writes}
+use Rattle.lexer.specs.Stretch.{inStretch}
 use Rattle.lexer.specs.declared.chars.Look.{Look}
 use Rattle.lexer.specs.declared.cursor.Cursor.{Cursor}
 use Rattle.lexer.specs.declared.digits.Digits.{Digits}
@@ -24,7 +25,8 @@ use Rattle.lexer.proofs.Cursors.{move-offset, move-valid}
 use Rattle.lexer.proofs.Items.{Carries, items-hold, items-stop, items-on}
 use Rattle.lexer.proofs.Looks.{Seen, look-byte}
 use Rattle.lexer.proofs.Spans.{by-test, not-newline, Span, Plain, plain-char, plain-step, plain-digits}
-use Rattle.lexer.proofs.Steps.{drop-end}
+use Rattle.lexer.proofs.Steps.{drop-at, drop-end}
+use Rattle.lexer.proofs.Stretches.{in-stretch, stretch-known}
 
 -- ---- where an item ends
 
@@ -137,6 +139,16 @@ module _ (q : ℕ) (s : List ℕ) (at : ℕ) where
 
     pub close-ends : quotedItem q token s at ≡ Close e → Closing q s at e
     close-ends f = ends (Close e) f
+
+-- a byte from space to tilde, but the quote and the backslash, stands for itself
+pub ordinary-char : (q token : ℕ) (s : List ℕ) (at : ℕ) → at < length s → inStretch space 126 q backslash (getD s at 0) ≡ true
+    → quotedItem q token s at ≡ Char (getD s at 0) (at + 1)
+unfolding front needed itemTo
+ordinary-char q token s at h t =
+    let x = getD s at 0 in
+    let w = in-stretch space 126 q backslash x t in
+    let k = stretch-known x (w .from) (w .to) in
+    cc (drop-at s at h, k .0, ne-eqb x newline (k .1), ne-eqb x tab (λ e. omega arith), ne-eqb x q (w .no-p), ne-eqb x backslash (w .no-q))
 
 -- ---- what a quoted token comes to
 

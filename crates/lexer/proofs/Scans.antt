@@ -1,19 +1,22 @@
 -- Where a scan can stop, and scans from a cursor. Assumes nothing.
-use mathlib.Core.Path.{_≡_, refl, ap}
+use mathlib.Core.Path.{_≡_, refl, sym, _∙_, ap}
 use mathlib.Core.Bool.{Bool, true, false, cond}
 use mathlib.Core.List.{List, [], _∷_}
 use Prim.Native.Nat.{ℕ, zero, suc, _+_, _-_, _<_, _≤_}
 use native.Mathlib.Omega.{arith}
 use lib.Dec.{eqb}
 use lib.ListN.{length, drop, getD, length-drop}
-use Rattle.lexer.specs.Chars.{is, foreignByte}
+use Rattle.lexer.specs.Chars.{is, foreignByte, space}
 use Rattle.lexer.specs.Cursor.{step, moveTo}
 use Rattle.lexer.specs.Layout.{beginsWith, past, moved}
+use Rattle.lexer.specs.Stretch.{inStretch, stretchEnd}
 use Rattle.lexer.specs.declared.cursor.Cursor.{Cursor}
 use Rattle.lexer.specs.declared.cursor.Moved.{Moved}
 use Rattle.lexer.specs.declared.cursor.Scan.{Scan}
 use Rattle.lexer.specs.declared.cursor.Scan.the-variants.{Stop, Refused}
 use Rattle.lexer.proofs.Cursors.{both, move-step, move-by}
+use Rattle.lexer.proofs.Steps.{drop-at}
+use Rattle.lexer.proofs.Stretches.{InStretch, Passed, along-stretch, in-stretch, stretch-known}
 
 -- a scan stops from lo to hi, both included, if it stops
 abbrev pub Between : ℕ → ℕ → Scan → Type 0
@@ -61,3 +64,23 @@ pub moved-by : (s : List ℕ) (c : Cursor) (b : ℕ) (r : Scan) → c .offset �
 unfolding moved
 moved-by s c b (Stop e) h k = ap Moved.To (move-by s c e (omega (arith, k .0)) (k .1) b h (k .0))
 moved-by s c b (Refused w) h k = refl
+
+-- along a stretch of plain bytes, of which none begins the mark
+module _ (mark : List ℕ) (none : ℕ → Scan) (s : List ℕ) where
+  abbrev scan : ℕ → Scan
+  scan n = past mark none n (drop n s)
+
+  module _ (p q : ℕ) (apart : (x : ℕ) (ys : List ℕ) → InStretch space 126 p q x → beginsWith mark (x ∷ ys) ≡ false) where
+    plain-byte : (i : ℕ) → i < length s → inStretch space 126 p q (getD s i 0) ≡ true → scan i ≡ scan (i + 1)
+    unfolding past
+    plain-byte i h t =
+        let w = in-stretch space 126 p q (getD s i 0) t in
+        let k = stretch-known (getD s i 0) (w .from) (w .to) .0 in
+        cc (drop-at s i h, apart (getD s i 0) (drop (i + 1) s) w)
+
+    module _ (c : Cursor) (e : ℕ) (f : e ≡ stretchEnd space 126 p q s (c .offset)) (d : Cursor) (w : Passed s c e d) where
+      pub past-along : Between e (length s) (scan e) → moved s c (scan (c .offset)) ≡ moved s d (scan (d .offset))
+      past-along h =
+          let k = along-stretch scan space 126 p q s plain-byte (c .offset) ∙ ap scan (sym f) in
+          ap (moved s c) k ∙ moved-by s c e (scan e) (w .ahead) h ∙ ap (λ (x : Cursor). moved s x (scan e)) (sym (w .there))
+          ∙ ap (λ (n : ℕ). moved s d (scan n)) (sym (w .offset))

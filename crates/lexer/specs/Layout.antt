@@ -15,6 +15,7 @@ use Rattle.lexer.specs.declared.chars.Look.{Look}
 use Rattle.lexer.specs.declared.cursor.Cursor.{Cursor}
 use Rattle.lexer.specs.declared.cursor.Moved.{Moved}
 use Rattle.lexer.specs.declared.cursor.Scan.{Scan}
+use Rattle.lexer.specs.declared.layout.Layout.{Layout}
 use Rattle.lexer.specs.declared.cursor.Scan.the-variants.{Stop, Refused}
 
 -- the first list stands at the front of the second
@@ -87,6 +88,15 @@ layoutEnd s at = items (layoutTexts s) ended 0 at (drop at s)
 unfoldable pub moved : List ℕ → Cursor → Scan → Moved
 moved s c (Stop e) = Moved.To (moveTo s c e)
 moved s c (Refused w) = Moved.Refused w
+
+-- what stands at the cursor, by where it ends: a layout text that ends where it starts is none
+unfoldable pub stepped : List ℕ → Cursor → Scan → Layout
+stepped s c (Stop e) = cond (eqb e (c .offset)) Layout.Absent (Layout.To (moveTo s c e))
+stepped s c (Refused w) = Layout.Refused w
+
+abbrev pub layoutTo : Moved → Layout
+layoutTo (Moved.To c) = Layout.To c
+layoutTo (Moved.Refused w) = Layout.Refused w
 
 -- what the private functions ask: a valid cursor at a slash that a star follows
 pub record Opening (s : List ℕ) (c : Cursor) : Type 0 where

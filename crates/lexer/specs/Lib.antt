@@ -10,5 +10,6 @@ pub mod Nearest
 pub mod Number
 pub mod Quoted
 pub mod Refusal
+pub mod Stretch
 pub mod Text
 pub mod Token

@@ -10,12 +10,14 @@ use crate::cursor::skip_along;
 use crate::cursor::skip_char;
 use crate::refusal::Fault;
 use crate::refusal::Refusal;
+use crate::stretch::NONE;
+use crate::stretch::stretch_end;
 ghost use mathlib.Core.Path.{_≡_};
 ghost use lib.ListN.{length};
 ghost use Rattle.lexer.specs.Cursor.{Valid};
 ghost use Prim.Native.Nat.{_+_};
 ghost use Rattle.lexer.specs.Look.{lookahead};
-ghost use Rattle.lexer.specs.Layout.{singleLineComment, commentText, bracketedComment, slashed, layoutText, layoutEnd, moved, Opening, Slash, Inside};
+ghost use Rattle.lexer.specs.Layout.{singleLineComment, commentText, bracketedComment, slashed, layoutText, layoutEnd, moved, stepped, layoutTo, Opening, Slash, Inside};
 
 // Behind the newline that ends a `%` comment, or at the end of the text. The cursor stands in the comment.
 fn single_line_comment(text: &[u8], cursor: Cursor) -> Moved
@@ -24,7 +26,8 @@ fn single_line_comment(text: &[u8], cursor: Cursor) -> Moved
 {
     let mut c = cursor;
     loop {
-        let at = c.offset;
+        let at = stretch_end(text, c.offset, b' ', b'~', NONE, NONE);
+        c = skip_along(c, at);
         match peek_char(text, at) {
             Peek::End => return Moved::To(c),
             Peek::Foreign => {
@@ -50,7 +53,8 @@ fn comment_text(text: &[u8], slash: usize, cursor: Cursor) -> Moved
 {
     let mut c = cursor;
     let close = 'comment: loop {
-        let at = c.offset;
+        let at = stretch_end(text, c.offset, b' ', b'~', b'*', NONE);
+        c = skip_along(c, at);
         match peek_char(text, at) {
             Peek::End => {
                 return Moved::Refused(Fault {
@@ -113,57 +117,76 @@ fn bracketed_comment(text: &[u8], cursor: Cursor) -> Moved
     }
 }
 
-// Behind the comment that the slash at the cursor opens; where it opens none, the cursor itself.
-fn slash_text(text: &[u8], cursor: Cursor) -> Moved
+// What stands at a cursor: layout, up to the cursor behind it, or none.
+pub enum Layout {
+    To(Cursor),
+    Absent,
+    Refused(Fault),
+}
+
+// A comment as layout.
+fn layout_to(comment: Moved) -> Layout
+    ensures { λ r. ⌜ r ≡ layoutTo comment ⌝ }
+{
+    match comment {
+        Moved::To(next) => Layout::To(next),
+        Moved::Refused(fault) => Layout::Refused(fault),
+    }
+}
+
+// The comment that the slash at the cursor opens, if it opens one.
+fn slash_text(text: &[u8], cursor: Cursor) -> Layout
     requires { ⌜ Slash (now text) cursor ⌝ }
-    ensures { λ r. ⌜ r ≡ moved (now (text .entry)) cursor (slashed (now (text .entry)) (cursor .offset) (lookahead (now (text .entry)) (cursor .offset + 1))) ⌝ }
+    ensures { λ r. ⌜ r ≡ stepped (now (text .entry)) cursor (slashed (now (text .entry)) (cursor .offset) (lookahead (now (text .entry)) (cursor .offset + 1))) ⌝ }
 {
     let next = cursor.offset + 1;
     match lookahead_char(text, next) {
-        Look::Refused(fault) => Moved::Refused(fault),
+        Look::Refused(fault) => Layout::Refused(fault),
         Look::Byte(b) => {
             if b == b'*' {
-                return bracketed_comment(text, cursor);
+                layout_to(bracketed_comment(text, cursor))
+            } else {
+                Layout::Absent
             }
-            Moved::To(cursor)
         }
     }
 }
 
-// Behind one layout text; where none stands at the cursor, the cursor itself.
-fn consume_layout(text: &[u8], cursor: Cursor) -> Moved
+// One layout text.
+fn consume_layout(text: &[u8], cursor: Cursor) -> Layout
     requires { ⌜ Valid (length (now text)) cursor ⌝ }
-    ensures { λ r. ⌜ r ≡ moved (now (text .entry)) cursor (layoutText (now (text .entry)) (cursor .offset)) ⌝ }
+    ensures { λ r. ⌜ r ≡ stepped (now (text .entry)) cursor (layoutText (now (text .entry)) (cursor .offset)) ⌝ }
 {
     let at = cursor.offset;
     match lookahead_char(text, at) {
-        Look::Refused(fault) => Moved::Refused(fault),
+        Look::Refused(fault) => Layout::Refused(fault),
         Look::Byte(b) => {
             if is_layout(b) {
-                return Moved::To(skip_char(cursor, b));
-            }
-            match b {
-                b'%' => single_line_comment(text, skip_char(cursor, b)),
-                b'/' => slash_text(text, cursor),
-                _ => Moved::To(cursor),
+                Layout::To(skip_char(cursor, b))
+            } else if b == b'%' {
+                layout_to(single_line_comment(text, skip_char(cursor, b)))
+            } else if b == b'/' {
+                slash_text(text, cursor)
+            } else {
+                Layout::Absent
             }
         }
     }
 }
 
-// Where layout ends.
+// Where layout ends. Spaces are passed over in a run.
 pub(crate) fn scan_for_layout(text: &[u8], cursor: Cursor) -> Moved
     requires { ⌜ Valid (length (now text)) cursor ⌝ }
     ensures { λ r. ⌜ r ≡ moved (now (text .entry)) cursor (layoutEnd (now (text .entry)) (cursor .offset)) ⌝ }
 {
     let mut c = cursor;
     loop {
+        let at = stretch_end(text, c.offset, b' ', b' ', NONE, NONE);
+        c = skip_along(c, at);
         match consume_layout(text, c) {
-            Moved::Refused(fault) => return Moved::Refused(fault),
-            Moved::To(next) => {
-                if next.offset == c.offset {
-                    return Moved::To(c);
-                }
+            Layout::Refused(fault) => return Moved::Refused(fault),
+            Layout::Absent => return Moved::To(c),
+            Layout::To(next) => {
                 c = next;
             }
         }

@@ -10,6 +10,7 @@ mod name;
 mod number;
 mod quoted;
 mod refusal;
+mod stretch;
 mod text;
 mod token;
 

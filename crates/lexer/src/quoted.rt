@@ -8,6 +8,7 @@ use crate::digits::digit;
 use crate::digits::read_digits;
 use crate::refusal::Fault;
 use crate::refusal::Refusal;
+use crate::stretch::stretch_end;
 ghost use mathlib.Core.Path.{_≡_};
 ghost use lib.ListN.{length};
 ghost use lib.Seq.{sets};
@@ -180,7 +181,9 @@ pub(crate) fn measure_quoted(text: &[u8], cursor: Cursor, quote: u8, token: usiz
     let mut n: usize = 0;
     let mut beyond = false;
     loop {
-        let at = c.offset;
+        let at = stretch_end(text, c.offset, b' ', b'~', quote, b'\\');
+        n += at - c.offset;
+        c = skip_along(c, at);
         match quoted_item(text, at, quote, token) {
             Item::Refused(fault) => return Measure::Refused(fault),
             Item::Close { next } => {

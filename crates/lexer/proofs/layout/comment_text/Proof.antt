@@ -9,11 +9,12 @@ use borrow.Author.Needs.{needs}
 use borrow.Author.Tests.{ne-eqb}
 use lib.Dec.{eqb}
 use lib.ListN.{length, drop, getD}
-use Rattle.lexer.specs.Chars.{is, classOf, foreignByte, star, slash}
-use Rattle.lexer.specs.Cursor.{step, moveTo, Valid, Movable}
+use Rattle.lexer.specs.Chars.{is, classOf, foreignByte, space, star, slash}
+use Rattle.lexer.specs.Cursor.{step, along, moveTo, Valid, Movable, Along}
 use Rattle.lexer.specs.Layout.{beginsWith, past, unclosed, commentText, moved, Inside}
 use Rattle.lexer.specs.Look.{peek}
 use Rattle.lexer.specs.Refusal.{fault}
+use Rattle.lexer.specs.Stretch.{stretchEnd}
 use Rattle.lexer.specs.declared.refusal.Refusal.the-variants.{UnclosedComment, ForeignByte}
 use Rattle.lexer.specs.declared.chars.Peek.{Peek}
 use Rattle.lexer.specs.declared.chars.Peek.the-variants.{Byte, Foreign, End}
@@ -22,8 +23,9 @@ use Rattle.lexer.specs.declared.cursor.Moved.{Moved}
 use Rattle.lexer.specs.declared.cursor.Scan.{Scan}
 use Rattle.lexer.proofs.Cursors.{movable, step-valid, move-here, move-step}
 use Rattle.lexer.proofs.Looks.{Seen, Strange, peek-end, peek-byte, peek-foreign}
-use Rattle.lexer.proofs.Scans.{Between, wider, past-ends, moved-step}
+use Rattle.lexer.proofs.Scans.{Between, wider, past-ends, past-along, moved-step}
 use Rattle.lexer.proofs.Steps.{drop-at, drop-end}
+use Rattle.lexer.proofs.Stretches.{InStretch, Passed, can-pass, passed}
 use Rattle.lexer.proofs.layout.comment_text.Statement.{statement}
 use Rattle.lexer.proofs.layout.comment_text.Tie as tie
 
@@ -63,60 +65,80 @@ record Inner (s : List ℕ) (o : ℕ) (c₀ c : Cursor) : Type 0 where
 started : (s : List ℕ) (o : ℕ) (c : Cursor) → Inside (length s) o c → Outer s o c c
 started s o c w = record { same = ap (λ (n : ℕ). moved s c (close s o n)) (sym (w .behind)); valid = w .valid }
 
--- the ways out of the outer loop's turn, over plain values: r is what stands at the cursor
-module _ (s : List ℕ) (o : ℕ) (c₀ c : Cursor) (i : Outer s o c₀ c) (r : Peek) (e : r ≡ peek s (c .offset)) where
-  ended : r ≡ End → Moved.Refused (fault UnclosedComment o) ≡ moved s c₀ (commentText s o)
-  unfolding past moved
-  ended f = let l : length s ≤ c .offset = peek-end s (c .offset) (sym e ∙ f) in cc (drop-end s (c .offset) l)
+-- no plain byte but a star begins the mark
+apart : (x : ℕ) (ys : List ℕ) → InStretch space 126 star 0 x → beginsWith mark (x ∷ ys) ≡ false
+apart x ys w = cc (ne-eqb x star (w .no-p))
 
-  foreign : r ≡ Foreign → Moved.Refused (fault ForeignByte (c .offset)) ≡ moved s c₀ (commentText s o)
-  unfolding past moved
-  foreign f = let l = peek-foreign s (c .offset) (sym e ∙ f) in cc
+-- the ways out of the outer loop's turn, over plain values: the plain bytes from the cursor on end at e
+module _ (s : List ℕ) (o : ℕ) (c₀ c : Cursor) (i : Outer s o c₀ c) (e : ℕ) (g : e ≡ stretchEnd space 126 star 0 s (c .offset)) where
+  can-skip-along : Along c e
+  can-skip-along = can-pass space 126 star 0 (omega arith) (omega arith) s c (i .valid) e g
 
-  module _ (b : ℕ) (f : r ≡ Byte b) where
-    seen : Seen s (c .offset) b
-    seen = peek-byte s (c .offset) b (sym e ∙ f)
+  -- c′ is the cursor there, r what stands there
+  module _ (c′ : Cursor) (a : c′ ≡ along c (e - c .offset)) (r : Peek) (h : r ≡ peek s e) where
+    way : Passed s c e c′
+    way = passed space 126 star 0 (omega arith) (omega arith) s c (i .valid) e g c′ a
 
-    can-skip : Movable c
-    can-skip = movable (length s) c (i .valid) (seen .inside)
+    same : moved s c₀ (commentText s o) ≡ moved s c′ (close s o (c′ .offset))
+    same =
+        i .same
+        ∙ past-along mark (unclosed o) s star 0 apart c e g c′ way (wider (e + 2) (length s) _ _ (close s o e) (omega arith) (omega arith) (ends s o e (way .inside)))
 
-    module _ (d : Cursor) (q : d ≡ step c b) where
-      other : (b ≡ star → ⊥) → Outer s o c₀ d
-      other n =
-          let l = seen in
-          let t = ne-eqb b star n in
-          let k = past-none s o (c .offset) b l (cc) in
-          let m = moved-step s c (l .inside) (close s o (c .offset + 1))
-          (wider (c .offset + 1 + 2) (length s) _ _ (close s o (c .offset + 1)) (omega arith) (omega arith) (ends s o (c .offset + 1) (omega (arith, l .inside)))) in
-          rw q (record { same = cc; valid = step-valid (length s) c (i .valid) b (l .inside) })
+    there : r ≡ peek s (c′ .offset)
+    there = h ∙ ap (peek s) (sym (way .offset))
 
-      less : length s - d .offset < length s - c .offset
-      less = let l = seen in rw q (omega (arith, l .inside))
+    ended : r ≡ End → Moved.Refused (fault UnclosedComment o) ≡ moved s c₀ (commentText s o)
+    unfolding past moved
+    ended f = let l : length s ≤ c′ .offset = peek-end s (c′ .offset) (sym there ∙ f) in cc (same, drop-end s (c′ .offset) l)
 
-      module _ (n : b ≡ star) where
-        starred : Inner s o d d
-        starred =
+    foreign : r ≡ Foreign → Moved.Refused (fault ForeignByte e) ≡ moved s c₀ (commentText s o)
+    unfolding past moved
+    foreign f = let l = peek-foreign s (c′ .offset) (sym there ∙ f) in cc (same, way .offset)
+
+    module _ (b : ℕ) (f : r ≡ Byte b) where
+      seen : Seen s (c′ .offset) b
+      seen = peek-byte s (c′ .offset) b (sym there ∙ f)
+
+      can-skip : Movable c′
+      can-skip = movable (length s) c′ (way .valid) (seen .inside)
+
+      module _ (d : Cursor) (q : d ≡ step c′ b) where
+        other : (b ≡ star → ⊥) → Outer s o c₀ d
+        other n =
             let l = seen in
-            let a : d .offset ≡ c .offset + 1 = ap (λ (x : Cursor). x .offset) q in
-            let m : d .offset - 1 ≡ c .offset = omega arith in
-            record {
-              k = c .offset;
-              behind = sym a;
-              seen = rw n at l;
-              same = ap (λ (j : ℕ). moved s d (close s o j)) m;
-              valid = rw q (step-valid (length s) c (i .valid) b (l .inside));
-              onward = omega arith;
-            }
+            let t = ne-eqb b star n in
+            let k = past-none s o (c′ .offset) b l (cc) in
+            let m = moved-step s c′ (l .inside) (close s o (c′ .offset + 1))
+            (wider (c′ .offset + 1 + 2) (length s) _ _ (close s o (c′ .offset + 1)) (omega arith) (omega arith) (ends s o (c′ .offset + 1) (omega (arith, l .inside)))) in
+            rw q (record { same = cc (same); valid = step-valid (length s) c′ (way .valid) b (l .inside) })
 
-        -- the comment from the start is the comment from that star
-        linked : moved s c₀ (commentText s o) ≡ moved s d (close s o (d .offset - 1))
-        linked =
-            let l = seen in
-            let a : d .offset ≡ c .offset + 1 = ap (λ (x : Cursor). x .offset) q in
-            let m : c .offset ≡ d .offset - 1 = omega arith in
-            let w = moved-step s c (l .inside) (close s o (c .offset))
-            (wider (c .offset + 2) (length s) _ _ (close s o (c .offset)) (omega arith) (omega arith) (ends s o (c .offset) (omega (arith, l .inside)))) in
-            cc (ap (λ (j : ℕ). moved s d (close s o j)) m)
+        less : length s - d .offset < length s - c .offset
+        less = let l = seen in rw q (omega (arith, l .inside, way .ahead, way .offset))
+
+        module _ (n : b ≡ star) where
+          starred : Inner s o d d
+          starred =
+              let l = seen in
+              let a : d .offset ≡ c′ .offset + 1 = ap (λ (x : Cursor). x .offset) q in
+              let m : d .offset - 1 ≡ c′ .offset = omega arith in
+              record {
+                k = c′ .offset;
+                behind = sym a;
+                seen = rw n at l;
+                same = ap (λ (j : ℕ). moved s d (close s o j)) m;
+                valid = rw q (step-valid (length s) c′ (way .valid) b (l .inside));
+                onward = omega arith;
+              }
+
+          -- the comment from the start is the comment from that star
+          linked : moved s c₀ (commentText s o) ≡ moved s d (close s o (d .offset - 1))
+          linked =
+              let l = seen in
+              let a : d .offset ≡ c′ .offset + 1 = ap (λ (x : Cursor). x .offset) q in
+              let m : c′ .offset ≡ d .offset - 1 = omega arith in
+              let w = moved-step s c′ (l .inside) (close s o (c′ .offset))
+              (wider (c′ .offset + 2) (length s) _ _ (close s o (c′ .offset)) (omega arith) (omega arith) (ends s o (c′ .offset) (omega (arith, l .inside)))) in
+              cc (same, ap (λ (j : ℕ). moved s d (close s o j)) m)
 
 -- the ways out of the inner loop's turn: d is the cursor where it began, behind a star
 module _ (s : List ℕ) (o : ℕ) (d c : Cursor) (j : Inner s o d c) (r : Peek) (e : r ≡ peek s (c .offset)) where
@@ -140,11 +162,12 @@ module _ (s : List ℕ) (o : ℕ) (d c : Cursor) (j : Inner s o d c) (r : Peek) 
       less-behind : length s - c′ .offset < length s - c .offset
       less-behind = let l = inside in rw q (omega arith)
 
-      -- the outer loop's measure falls too: its cursor stood before the star
-      less-outer : (c₁ : Cursor) (b₁ : ℕ) → d ≡ step c₁ b₁ → length s - c′ .offset < length s - c₁ .offset
-      less-outer c₁ b₁ w =
+      -- the outer loop's measure falls too: its cursor, c₁, stood before the star or k plain bytes further back
+      less-outer : (c₁ c₂ : Cursor) (k b₁ : ℕ) → c₂ ≡ along c₁ k → d ≡ step c₂ b₁ → length s - c′ .offset < length s - c₁ .offset
+      less-outer c₁ c₂ k b₁ v w =
           let l = inside in
-          let a : d .offset ≡ c₁ .offset + 1 = ap (λ (x : Cursor). x .offset) w in
+          let a : c₂ .offset ≡ c₁ .offset + k = ap (λ (x : Cursor). x .offset) v in
+          let m : d .offset ≡ c₂ .offset + 1 = ap (λ (x : Cursor). x .offset) w in
           rw q (omega (arith, j .onward))
 
       module _ (n : b ≡ slash → ⊥) where
@@ -214,7 +237,7 @@ module _ (s : List ℕ) (o : ℕ) (d c : Cursor) (j : Inner s o d c) (r : Peek) 
             valid = valid-behind b f c′ q n;
           }
 
-ruleset ways = (started, ended, foreign, can-skip, other, less, starred, linked, ended-behind, foreign-behind, can-skip-behind, closed, less-behind, less-outer, stars, other-behind, needs)
+ruleset ways = (started, can-skip-along, ended, foreign, can-skip, other, less, starred, linked, ended-behind, foreign-behind, can-skip-behind, closed, less-behind, less-outer, stars, other-behind, needs)
 
 abbrev Inv-loop : tie.InvT-loop
 Inv-loop text slash c₀ at b c = Inner text slash c₀ c
@@ -231,6 +254,12 @@ abbrev μ-comment : tie.MeasureT-comment
 -- answers
 comment-holds : tie.Need-comment-holds Inv-loop μ-loop Inv-comment μ-comment
 comment-holds c = search ways
+
+stretch-end-requires : tie.Need-stretch-end-requires Inv-loop μ-loop Inv-comment μ-comment
+stretch-end-requires c κs = search ways
+
+skip-along-requires : tie.Need-skip-along-requires Inv-loop μ-loop Inv-comment μ-comment
+skip-along-requires c κs = search ways
 
 peek-char-requires : tie.Need-peek-char-requires Inv-loop μ-loop Inv-comment μ-comment
 peek-char-requires c κs = search ways
@@ -307,6 +336,8 @@ comment-text-spec =
     Inv-comment
     μ-comment
     comment-holds
+    stretch-end-requires
+    skip-along-requires
     peek-char-requires
     enum-told
     returns

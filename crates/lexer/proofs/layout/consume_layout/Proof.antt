@@ -5,18 +5,19 @@ use mathlib.Core.Bool.{Bool, true, false}
 use mathlib.Core.List.{List}
 use native.Mathlib.Omega.{arith}
 use borrow.Author.Needs.{needs}
-use borrow.Author.Tests.{ne-eqb}
+use borrow.Author.Tests.{eq-eqb, ne-eqb}
 use lib.ListN.{length}
 use Rattle.lexer.specs.Chars.{is, layoutChar, percent, slash}
 use Rattle.lexer.specs.Cursor.{step, Valid, Movable}
-use Rattle.lexer.specs.Layout.{singleLineComment, slashed, layoutTextOf, layoutText, moved, Slash}
+use Rattle.lexer.specs.Layout.{singleLineComment, slashed, layoutTextOf, layoutText, moved, stepped, layoutTo, Slash}
 use Rattle.lexer.specs.Look.{lookahead}
 use Rattle.lexer.specs.declared.refusal.Fault.{Fault}
 use Rattle.lexer.specs.declared.chars.Look.{Look}
 use Rattle.lexer.specs.declared.cursor.Cursor.{Cursor}
 use Rattle.lexer.specs.declared.cursor.Moved.{Moved}
+use Rattle.lexer.specs.declared.layout.Layout.{Layout}
 use Rattle.lexer.proofs.Cursors.{movable, step-valid, move-here, move-step}
-use Rattle.lexer.proofs.Layouts.{line-ends}
+use Rattle.lexer.proofs.Layouts.{line-ends, stepped-ahead}
 use Rattle.lexer.proofs.Looks.{Seen, look-byte}
 use Rattle.lexer.proofs.Scans.{moved-step}
 use Rattle.lexer.proofs.layout.consume_layout.Statement.{statement}
@@ -24,8 +25,8 @@ use Rattle.lexer.proofs.layout.consume_layout.Tie as tie
 
 -- the ways out, over plain values: r is what stands at the cursor
 module _ (s : List ℕ) (c : Cursor) (r : Look) (e : r ≡ lookahead s (c .offset)) where
-  refused : (f : Fault) → r ≡ Look.Refused f → Moved.Refused f ≡ moved s c (layoutText s (c .offset))
-  unfolding layoutTextOf moved
+  refused : (f : Fault) → r ≡ Look.Refused f → Layout.Refused f ≡ stepped s c (layoutText s (c .offset))
+  unfolding layoutTextOf stepped
   refused f q = cc
 
   module _ (b : ℕ) (q : r ≡ Look.Byte b) where
@@ -43,29 +44,29 @@ module _ (s : List ℕ) (c : Cursor) (r : Look) (e : r ≡ lookahead s (c .offse
       at-slash n = record { valid = v; slash-there = sym e ∙ q ∙ ap Look.Byte n }
 
     module _ (t : Bool) (g : t ≡ is layoutChar b) where
-      blank : (d : Cursor) → t ≡ true → d ≡ step c b → Moved.To d ≡ moved s c (layoutText s (c .offset))
-      unfolding layoutTextOf moved
+      blank : (d : Cursor) → t ≡ true → d ≡ step c b → Layout.To d ≡ stepped s c (layoutText s (c .offset))
+      unfolding layoutTextOf stepped
       blank d n m =
           let l = seen in
-          cc (move-step s c (c .offset + 1) (omega arith) (omega (arith, l .inside)), move-here s (step c b))
+          cc (ne-eqb (c .offset + 1) (c .offset) (λ h. omega arith), move-step s c (c .offset + 1) (omega arith) (omega (arith, l .inside)), move-here s (step c b))
 
       module _ (n : t ≡ false) where
-        line : (d : Cursor) (z : Moved) → b ≡ percent → d ≡ step c b → z ≡ moved s d (singleLineComment s (d .offset)) → z ≡ moved s c (layoutText s (c .offset))
+        line : (d : Cursor) (m : Moved) (z : Layout) → b ≡ percent → d ≡ step c b → m ≡ moved s d (singleLineComment s (d .offset)) → z ≡ layoutTo m → z ≡ stepped s c (layoutText s (c .offset))
         unfolding layoutTextOf
-        line d z p m f =
+        line d m z p k f h =
             let l = seen in
-            let u : layoutText s (c .offset) ≡ singleLineComment s (c .offset + 1) = cc in
-            let v = moved-step s c (l .inside) (singleLineComment s (c .offset + 1)) (line-ends s (c .offset + 1) (omega (arith, l .inside))) in
-            f ∙ ap (λ (x : Cursor). moved s x (singleLineComment s (x .offset))) m
-            ∙ ap (λ (x : ℕ). moved s (step c x) (singleLineComment s (c .offset + 1))) (sym (l .it)) ∙ sym v ∙ ap (moved s c) (sym u)
+            let w = line-ends s (c .offset + 1) (omega (arith, l .inside)) in
+            let i = ap (λ (x : Cursor). moved s x (singleLineComment s (x .offset))) k in
+            let j = ap (λ (x : ℕ). moved s (step c x) (singleLineComment s (c .offset + 1))) (l .it) in
+            cc (moved-step s c (l .inside) (singleLineComment s (c .offset + 1)) w, stepped-ahead s c (length s) (singleLineComment s (c .offset + 1)) w)
 
-        comment : (z : Moved) → b ≡ slash → z ≡ moved s c (slashed s (c .offset) (lookahead s (c .offset + 1))) → z ≡ moved s c (layoutText s (c .offset))
+        comment : (z : Layout) → b ≡ slash → z ≡ stepped s c (slashed s (c .offset) (lookahead s (c .offset + 1))) → z ≡ stepped s c (layoutText s (c .offset))
         unfolding layoutTextOf
         comment z p f = cc
 
-        none : (b ≡ percent → ⊥) → (b ≡ slash → ⊥) → Moved.To c ≡ moved s c (layoutText s (c .offset))
-        unfolding layoutTextOf moved
-        none o p = cc (ne-eqb b percent o, ne-eqb b slash p, move-here s c)
+        none : (b ≡ percent → ⊥) → (b ≡ slash → ⊥) → Layout.Absent ≡ stepped s c (layoutText s (c .offset))
+        unfolding layoutTextOf stepped
+        none o p = cc (ne-eqb b percent o, ne-eqb b slash p, eq-eqb (c .offset) (c .offset) refl)
 
 ruleset ways = (refused, can-skip, in-comment, at-slash, blank, line, comment, none, needs)
 
@@ -85,17 +86,20 @@ is-layout-requires c κs = search ways
 skip-char-requires : tie.Need-skip-char-requires
 skip-char-requires c κs = search ways
 
-returns : tie.Need-returns
-returns c = search ways
-
 skip-char-requires-2 : tie.Need-skip-char-requires-2
 skip-char-requires-2 c κs = search ways
 
 single-line-comment-requires : tie.Need-single-line-comment-requires
 single-line-comment-requires c κs = search ways
 
+layout-to-requires : tie.Need-layout-to-requires
+layout-to-requires c κs = search ways
+
 slash-text-requires : tie.Need-slash-text-requires
 slash-text-requires c κs = search ways
+
+returns : tie.Need-returns
+returns c = search ways
 
 returns-2 : tie.Need-returns-2
 returns-2 c = search ways
@@ -118,10 +122,11 @@ consume-layout-spec =
     enum-known-b
     is-layout-requires
     skip-char-requires
-    returns
     skip-char-requires-2
     single-line-comment-requires
+    layout-to-requires
     slash-text-requires
+    returns
     returns-2
     returns-3
     returns-4
