@@ -8,12 +8,12 @@ use borrow.Author.Tests.{eqb-true}
 use lib.Dec.{eqb, ltb}
 use lib.ListN.{length, getD}
 use Rattle.lexer.specs.Chars.{is, quoteChar, singleQuote, doubleQuote}
-use Rattle.lexer.specs.Cursor.{moveTo}
+use Rattle.lexer.specs.Cursor.{startCursor, moveTo}
 use Rattle.lexer.specs.Layout.{layoutEnd}
 use Rattle.lexer.specs.Look.{lookahead}
 use Rattle.lexer.specs.Quoted.{Quoted, decode}
 use Rattle.lexer.specs.Text.{Reads}
-use Rattle.lexer.specs.Token.{plain, Text, source, decoded, none, Lexeme, lexeme, refused, token, textOf, plainLexeme, quotedTo, quotedLexeme, lexemeTo, afterLayout, readLexeme, kept, found}
+use Rattle.lexer.specs.Token.{plain, Text, source, decoded, none, Lexeme, lexeme, refused, token, textOf, plainLexeme, quotedTo, quotedLexeme, lexemeTo, afterLayout, readLexeme, kept, spelledTo, found}
 use Rattle.lexer.specs.declared.chars.Look.{Look}
 use Rattle.lexer.specs.declared.cursor.Cursor.{Cursor}
 use Rattle.lexer.specs.declared.cursor.Scan.{Scan}
@@ -118,6 +118,11 @@ spelt-kept source = refl
 spelt-kept (decoded bs) = record { bytes = bs; it = refl; count = refl }
 spelt-kept none = refl
 
+-- the cursor behind what was found, if it is a token
+abbrev behind : Found → Cursor
+behind (Found.Whole o t l x k) = record { offset = o; line = l; column = k }
+behind (Found.Refused w) = startCursor
+
 -- where the token ends, and its text
 pub record Kept (s : List ℕ) (c : Cursor) (t : Token) (spelling : Spelling) (next : Cursor) : Type 0 where
   pub end : ℕ
@@ -140,8 +145,8 @@ module _ (s : List ℕ) (c : Cursor) (t : Token) (next : Cursor) where
   unfolding found
   kept-of x r = go (readLexeme false s (c .offset)) refl (r .read)
     where
-      go : (l : Lexeme) → readLexeme false s (c .offset) ≡ l → found s c l ≡ Found.Whole t x next → Kept s c t x next
-      go (lexeme u e y) g h = let k : kept y ≡ x = cc in record { end = e; text = y; reads = cc; spelt = rw k at (spelt-kept y); moved = cc }
+      go : (l : Lexeme) → readLexeme false s (c .offset) ≡ l → found s c l ≡ spelledTo t x next → Kept s c t x next
+      go (lexeme u e y) g h = let k : kept y ≡ x = cc in record { end = e; text = y; reads = cc; spelt = rw k at (spelt-kept y); moved = ap behind (sym h) }
       go (refused w) g h = let z : _≡_ {A = ℕ} 0 1 = cc in absurd (omega arith)
 
   -- its own bytes run to where the next cursor stands

@@ -8,12 +8,11 @@ use lib.ListN.{length}
 use lib.Seq.{sets}
 use Rattle.lexer.specs.Cursor.{part, valid, moveTo, Valid}
 use Rattle.lexer.specs.Refusal.{fault}
-use Rattle.lexer.specs.Token.{source, decoded, none, Lexeme, lexeme, refused, readLexeme, notValid, found}
+use Rattle.lexer.specs.Token.{source, decoded, none, Lexeme, lexeme, refused, readLexeme, notValid, spelledTo, found}
 use Rattle.lexer.specs.declared.refusal.Refusal.the-variants.{NoRoom, NoText}
 use Rattle.lexer.specs.declared.cursor.Cursor.{Cursor}
 use Rattle.lexer.specs.declared.token.Token.{Token}
 use Rattle.lexer.specs.declared.token.Spelling.{Spelling}
-use Rattle.lexer.specs.declared.token.Found.{Found}
 use Rattle.lexer.specs.declared.text.Part.{Part}
 use Rattle.lexer.specs.declared.text.TextAnswer.{TextAnswer}
 use Rattle.lexer.specs.declared.text.TextAnswer.the-variants.{Read, Refused}
@@ -52,4 +51,4 @@ shown s d (Part.Scratch a e) = fitted a e d
 -- ---- what the private functions ask: a valid cursor c, at which the token t was read, with its spelling and the cursor behind it
 pub record Reads (s : List ℕ) (c : Cursor) (t : Token) (spelling : Spelling) (next : Cursor) : Type 0 where
   pub valid : Valid (length s) c
-  pub read : found s c (readLexeme false s (c .offset)) ≡ Found.Whole t spelling next
+  pub read : found s c (readLexeme false s (c .offset)) ≡ spelledTo t spelling next

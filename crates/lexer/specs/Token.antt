@@ -202,8 +202,11 @@ kept source = Spelling.Source
 kept (decoded bs) = Spelling.Decoded (length bs)
 kept none = Spelling.Absent
 
+abbrev pub spelledTo : Token → Spelling → Cursor → Found
+spelledTo t p c = Found.Whole (c .offset) t (c .line) p (c .column)
+
 unfoldable pub found : List ℕ → Cursor → Lexeme → Found
-found s c (lexeme t e x) = Found.Whole t (kept x) (moveTo s c e)
+found s c (lexeme t e x) = spelledTo t (kept x) (moveTo s c e)
 found s c (refused w) = Found.Refused w
 
 -- ---- what the private functions ask

@@ -103,10 +103,23 @@ fn text_at(text: &[u8], cursor: Cursor, scratch: &mut [u8]) -> TextAnswer
     match read_token(text, cursor, false) {
         Found::Refused(fault) => TextAnswer::Refused { fault, cursor },
         Found::Whole {
+            offset,
+            token,
+            line,
+            spelling,
+            column,
+        } => token_text(
+            text,
+            cursor,
             token,
             spelling,
-            next,
-        } => token_text(text, cursor, token, spelling, next, scratch),
+            Cursor {
+                offset,
+                line,
+                column,
+            },
+            scratch,
+        ),
     }
 }
 

@@ -46,7 +46,7 @@ ghost use Rattle.lexer.specs.declared.kind.Value.{Value};
 ghost use Rattle.lexer.specs.Number.{numberToken};
 ghost use Rattle.lexer.specs.Quoted.{decode};
 ghost use Rattle.lexer.specs.Look.{lookahead};
-ghost use Rattle.lexer.specs.Token.{mark, barToken, endToken, soloToken, valued, numbered, plainToken, plainNumber, plain, textOf, kept, plainLexeme, quotedTo, quotedLexeme, lexemeTo, readLexeme, answered, notValid, call, nextToken, nextNumberToken, found, At, AtDigit, AtSolo, Begins, Passing};
+ghost use Rattle.lexer.specs.Token.{mark, barToken, endToken, soloToken, valued, numbered, plainToken, plainNumber, plain, textOf, kept, plainLexeme, quotedTo, quotedLexeme, lexemeTo, readLexeme, answered, notValid, call, nextToken, nextNumberToken, spelledTo, found, At, AtDigit, AtSolo, Begins, Passing};
 
 // A token, whose span ends where the cursor behind it stands.
 pub struct Token {
@@ -271,14 +271,29 @@ pub enum Spelling {
     Absent,
 }
 
-// A token with its spelling and the cursor behind it.
+// A token with its spelling and the cursor behind it. The cursor's fields stand apart: side by side the processor would
+// be made to load two at once that were stored one by one, and wait until they have reached the cache.
 pub enum Found {
     Whole {
+        offset: usize,
         token: Token,
+        line: usize,
         spelling: Spelling,
-        next: Cursor,
+        column: usize,
     },
     Refused(Fault),
+}
+
+fn spelled(token: Token, spelling: Spelling, next: Cursor) -> Found
+    ensures { λ r. ⌜ r ≡ spelledTo token spelling next ⌝ }
+{
+    Found::Whole {
+        offset: next.offset,
+        token,
+        line: next.line,
+        spelling,
+        column: next.column,
+    }
 }
 
 fn spelling_of(kind: Kind) -> Spelling
@@ -320,15 +335,15 @@ fn plain_found(text: &[u8], c: Cursor, layout: bool, field: bool, b: u8) -> Foun
     let at = c.offset;
     match plain_read(text, at, layout, field, b) {
         Plain::Refused(fault) => Found::Refused(fault),
-        Plain::Whole { kind, value, end } => Found::Whole {
-            token: Token {
+        Plain::Whole { kind, value, end } => spelled(
+            Token {
                 kind,
                 value,
                 start: at,
             },
-            spelling: spelling_of(kind),
-            next: past_token(text, c, end),
-        },
+            spelling_of(kind),
+            past_token(text, c, end),
+        ),
     }
 }
 
@@ -340,15 +355,15 @@ fn quoted_token(text: &[u8], c: Cursor, quote: u8, kind: Kind) -> Found
     let at = c.offset;
     match measure_quoted(text, skip_char(c, quote), quote, at) {
         Measure::Refused(fault) => Found::Refused(fault),
-        Measure::Whole { length, next } => Found::Whole {
-            token: Token {
+        Measure::Whole { length, next } => spelled(
+            Token {
                 kind,
                 value: Value::Nothing,
                 start: at,
             },
-            spelling: Spelling::Decoded(length),
+            Spelling::Decoded(length),
             next,
-        },
+        ),
     }
 }
 
@@ -406,20 +421,6 @@ pub(crate) fn read_token(text: &[u8], cursor: Cursor, field: bool) -> Found
     }
 }
 
-// The cursor by its fields: as a whole it would be copied through memory.
-fn accepted(token: Token, next: Cursor) -> Answer
-    ensures { λ r. ⌜ r ≡ Answer.Read token next ⌝ }
-{
-    Answer::Read {
-        token,
-        next: Cursor {
-            offset: next.offset,
-            line: next.line,
-            column: next.column,
-        },
-    }
-}
-
 // What either call answers at a valid cursor.
 fn answer_at(text: &[u8], cursor: Cursor, field: bool) -> Answer
     requires { ⌜ Valid (length (now text)) cursor ⌝ }
@@ -428,10 +429,19 @@ fn answer_at(text: &[u8], cursor: Cursor, field: bool) -> Answer
     match read_token(text, cursor, field) {
         Found::Refused(fault) => Answer::Refused { fault, cursor },
         Found::Whole {
+            offset,
             token,
+            line,
             spelling: _,
-            next,
-        } => accepted(token, next),
+            column,
+        } => Answer::Read {
+            token,
+            next: Cursor {
+                offset,
+                line,
+                column,
+            },
+        },
     }
 }
 

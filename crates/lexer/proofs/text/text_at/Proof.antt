@@ -28,8 +28,9 @@ module _ (s : List ℕ) (c : Cursor) where
     refuse : (d : List ℕ) (w : Fault) → r ≡ Found.Refused w → leaves (Refused w c) d ≡ tokenText s c d
     refuse d w h = told d (readLexeme false s (c .offset)) w (sym f ∙ h)
 
-    reads : (t : Token) (x : Spelling) (next : Cursor) → Valid (length s) c → r ≡ Found.Whole t x next → Reads s c t x next
-    reads t x next v h = record { valid = v; read = sym f ∙ h }
+    reads : (o : ℕ) (t : Token) (l : ℕ) (x : Spelling) (k : ℕ) → Valid (length s) c → r ≡ Found.Whole o t l x k
+        → Reads s c t x (record { offset = o; line = l; column = k })
+    reads o t l x k v h = record { valid = v; read = sym f ∙ h }
 
 ruleset ways = (refuse, reads, needs)
 
@@ -40,8 +41,8 @@ read-token-requires c κs = search ways
 enum-known-fault : tie.Need-enum-known-fault
 enum-known-fault c = search ways
 
-enum-known-token : tie.Need-enum-known-token
-enum-known-token c = search ways
+enum-known-offset : tie.Need-enum-known-offset
+enum-known-offset c = search ways
 
 token-text-requires : tie.Need-token-text-requires
 token-text-requires c κs = search ways
@@ -61,7 +62,7 @@ text-at-spec =
     (tie.spec
     read-token-requires
     enum-known-fault
-    enum-known-token
+    enum-known-offset
     token-text-requires
     returns
     same-length

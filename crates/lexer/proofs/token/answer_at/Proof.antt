@@ -1,10 +1,10 @@
 -- `lexer::token::answer_at` meets its contract. Assumes nothing.
 use Prim.Native.Nat.{ℕ}
-use mathlib.Core.Path.{_≡_, _∙_}
+use mathlib.Core.Path.{_≡_, refl, sym, _∙_, ap}
 use mathlib.Core.Bool.{Bool}
 use mathlib.Core.List.{List}
 use borrow.Author.Needs.{needs}
-use Rattle.lexer.specs.Token.{Lexeme, lexeme, refused, readLexeme, answered, kept, found}
+use Rattle.lexer.specs.Token.{Lexeme, lexeme, refused, readLexeme, answered, found}
 use Rattle.lexer.specs.declared.refusal.Fault.{Fault}
 use Rattle.lexer.specs.declared.cursor.Cursor.{Cursor}
 use Rattle.lexer.specs.declared.token.Token.{Token}
@@ -14,23 +14,28 @@ use Rattle.lexer.specs.declared.token.Answer.{Answer}
 use Rattle.lexer.proofs.token.answer_at.Statement.{statement}
 use Rattle.lexer.proofs.token.answer_at.Tie as tie
 
-module _ (s : List ℕ) (c : Cursor) (r : Found) where
-  refused-of : (x : Lexeme) → r ≡ found s c x → (w : Fault) → r ≡ Found.Refused w → Answer.Refused w c ≡ answered s c x
-  unfolding answered found
-  refused-of (lexeme t e y) f w g = cc
-  refused-of (refused v) f w g = cc
+-- what the call answers, by what was found
+abbrev told : Cursor → Found → Answer
+told c (Found.Whole o t l y k) = Answer.Read t (record { offset = o; line = l; column = k })
+told c (Found.Refused w) = Answer.Refused w c
 
-  read-of : (x : Lexeme) → r ≡ found s c x → (t : Token) (y : Spelling) (d : Cursor) → r ≡ Found.Whole t y d → Answer.Read t d ≡ answered s c x
+module _ (s : List ℕ) (c : Cursor) where
+  -- a cursor is what its fields make
+  told-found : (x : Lexeme) → told c (found s c x) ≡ answered s c x
   unfolding answered found
-  read-of (lexeme u e z) f t y d g = cc
-  read-of (refused v) f t y d g = cc
+  told-found (lexeme t e y) = refl
+  told-found (refused w) = refl
 
-  module _ (field : Bool) (f : r ≡ found s c (readLexeme field s (c .offset))) where
+  module _ (field : Bool) (r : Found) (f : r ≡ found s c (readLexeme field s (c .offset))) where
+    answers : (z : Found) → r ≡ z → told c z ≡ answered s c (readLexeme field s (c .offset))
+    answers z g = ap (told c) (sym g ∙ f) ∙ told-found (readLexeme field s (c .offset))
+
     no-token : (w : Fault) → r ≡ Found.Refused w → Answer.Refused w c ≡ answered s c (readLexeme field s (c .offset))
-    no-token w g = refused-of (readLexeme field s (c .offset)) f w g
+    no-token w g = answers (Found.Refused w) g
 
-    read : (t : Token) (y : Spelling) (d : Cursor) (a : Answer) → r ≡ Found.Whole t y d → a ≡ Answer.Read t d → a ≡ answered s c (readLexeme field s (c .offset))
-    read t y d a g h = h ∙ read-of (readLexeme field s (c .offset)) f t y d g
+    read : (o : ℕ) (t : Token) (l : ℕ) (y : Spelling) (k : ℕ) → r ≡ Found.Whole o t l y k
+        → Answer.Read t (record { offset = o; line = l; column = k }) ≡ answered s c (readLexeme field s (c .offset))
+    read o t l y k g = answers (Found.Whole o t l y k) g
 
 ruleset ways = (no-token, read, needs)
 
@@ -41,11 +46,8 @@ read-token-requires c κs = search ways
 enum-known-fault : tie.Need-enum-known-fault
 enum-known-fault c = search ways
 
-enum-known-token : tie.Need-enum-known-token
-enum-known-token c = search ways
-
-accepted-requires : tie.Need-accepted-requires
-accepted-requires c κs = search ways
+enum-known-offset : tie.Need-enum-known-offset
+enum-known-offset c = search ways
 
 returns : tie.Need-returns
 returns c = search ways
@@ -59,7 +61,6 @@ answer-at-spec =
     (tie.spec
     read-token-requires
     enum-known-fault
-    enum-known-token
-    accepted-requires
+    enum-known-offset
     returns
     returns-2)

@@ -6,7 +6,7 @@ use mathlib.Core.List.{List}
 use borrow.Author.Needs.{needs}
 use lib.ListN.{length}
 use Rattle.lexer.specs.Cursor.{moveTo}
-use Rattle.lexer.specs.Token.{plain, textOf, kept, token, plainLexeme, found, At, Begins, Passing}
+use Rattle.lexer.specs.Token.{plain, textOf, kept, token, plainLexeme, spelledTo, found, At, Begins, Passing}
 use Rattle.lexer.specs.declared.refusal.Fault.{Fault}
 use Rattle.lexer.specs.declared.cursor.Cursor.{Cursor}
 use Rattle.lexer.specs.declared.kind.Kind.{Kind}
@@ -34,10 +34,10 @@ module _ (s : List ℕ) (c : Cursor) (b : ℕ) where
           let q = plain-token-ends s (c .offset) b (look-byte s (c .offset) b (w .there)) field t p k v end e f in
           record { valid = w .valid; ahead = q .ahead; inside = q .inside; plain = q .plain }
 
-      whole : (x : Spelling) (d : Cursor) → x ≡ kept (textOf k) → d ≡ moveTo s c end
-          → Found.Whole (token k v (c .offset)) x d ≡ found s c (plainLexeme (c .offset) (plain field s (c .offset) t b))
+      whole : (x : Spelling) (d : Cursor) (r : Found) → x ≡ kept (textOf k) → d ≡ moveTo s c end → r ≡ spelledTo (token k v (c .offset)) x d
+          → r ≡ found s c (plainLexeme (c .offset) (plain field s (c .offset) t b))
       unfolding plainLexeme found
-      whole x d g h = cc
+      whole x d r g h i = cc
 
 ruleset ways = (at-byte, refused, passing, whole, needs)
 
@@ -57,6 +57,9 @@ spelling-of-requires c κs = search ways
 past-token-requires : tie.Need-past-token-requires
 past-token-requires c κs = search ways
 
+spelled-requires : tie.Need-spelled-requires
+spelled-requires c κs = search ways
+
 returns : tie.Need-returns
 returns c = search ways
 
@@ -72,5 +75,6 @@ plain-found-spec =
     enum-known-kind
     spelling-of-requires
     past-token-requires
+    spelled-requires
     returns
     returns-2)

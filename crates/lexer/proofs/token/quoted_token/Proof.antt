@@ -7,7 +7,7 @@ use borrow.Author.Needs.{needs}
 use lib.ListN.{length, getD}
 use Rattle.lexer.specs.Cursor.{step, moveTo, Valid, Movable}
 use Rattle.lexer.specs.Quoted.{Quoted, decode, measured}
-use Rattle.lexer.specs.Token.{kept, token, quotedTo, found, Begins}
+use Rattle.lexer.specs.Token.{kept, token, quotedTo, spelledTo, found, Begins}
 use Rattle.lexer.specs.declared.refusal.Fault.{Fault}
 use Rattle.lexer.specs.declared.cursor.Cursor.{Cursor}
 use Rattle.lexer.specs.declared.kind.Kind.{Kind}
@@ -35,7 +35,7 @@ module _ (s : List ℕ) (c : Cursor) (q : ℕ) (w : Begins s c q) where
     -- what the items come to, by what was measured behind the quote
     told : (k : Kind) (x : Quoted) → decode q (c .offset) s (c .offset + 1) ≡ x → (r : Measure) → r ≡ measured s d x
         → ((v : Fault) → r ≡ Measure.Refused v → Found.Refused v ≡ found s c (quotedTo k (c .offset) x))
-        × ((n : ℕ) (z : Cursor) → r ≡ Measure.Whole n z → Found.Whole (token k Nothing (c .offset)) (Spelling.Decoded n) z ≡ found s c (quotedTo k (c .offset) x))
+        × ((n : ℕ) (z : Cursor) → r ≡ Measure.Whole n z → spelledTo (token k Nothing (c .offset)) (Spelling.Decoded n) z ≡ found s c (quotedTo k (c .offset) x))
     unfolding quotedTo found measured
     told k (Quoted.refused v) e r f = ((λ u g. cc), (λ n z g. cc))
     told k (Quoted.whole bs end) e r f =
@@ -52,9 +52,9 @@ module _ (s : List ℕ) (c : Cursor) (q : ℕ) (w : Begins s c q) where
       refused : (v : Fault) → r ≡ Measure.Refused v → Found.Refused v ≡ found s c (quotedTo k (c .offset) (decode q (c .offset) s (c .offset + 1)))
       refused v g = told k _ refl r behind .0 v g
 
-      whole : (n : ℕ) (z : Cursor) → r ≡ Measure.Whole n z
-          → Found.Whole (token k Nothing (c .offset)) (Spelling.Decoded n) z ≡ found s c (quotedTo k (c .offset) (decode q (c .offset) s (c .offset + 1)))
-      whole n z g = told k _ refl r behind .1 n z g
+      whole : (n : ℕ) (z : Cursor) (y : Found) → r ≡ Measure.Whole n z → y ≡ spelledTo (token k Nothing (c .offset)) (Spelling.Decoded n) z
+          → y ≡ found s c (quotedTo k (c .offset) (decode q (c .offset) s (c .offset + 1)))
+      whole n z y g h = h ∙ told k _ refl r behind .1 n z g
 
 ruleset ways = (can-skip, valid-behind, refused, whole, needs)
 
@@ -71,6 +71,9 @@ enum-known-fault c = search ways
 enum-known-length : tie.Need-enum-known-length
 enum-known-length c = search ways
 
+spelled-requires : tie.Need-spelled-requires
+spelled-requires c κs = search ways
+
 returns : tie.Need-returns
 returns c = search ways
 
@@ -85,5 +88,6 @@ quoted-token-spec =
     measure-quoted-requires
     enum-known-fault
     enum-known-length
+    spelled-requires
     returns
     returns-2)

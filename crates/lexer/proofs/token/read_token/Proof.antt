@@ -10,7 +10,7 @@ use lib.ListN.{length}
 use Rattle.lexer.specs.Cursor.{moveTo, Valid}
 use Rattle.lexer.specs.Layout.{layoutEnd, moved}
 use Rattle.lexer.specs.Look.{lookahead}
-use Rattle.lexer.specs.Token.{Text, Lexeme, lexeme, refused, lexemeTo, afterLayout, readLexeme, kept, found}
+use Rattle.lexer.specs.Token.{Text, Lexeme, lexeme, refused, lexemeTo, afterLayout, readLexeme, kept, spelledTo, found}
 use Rattle.lexer.specs.declared.refusal.Fault.{Fault}
 use Rattle.lexer.specs.declared.cursor.Cursor.{Cursor}
 use Rattle.lexer.specs.declared.cursor.Moved.{Moved}
@@ -64,7 +64,7 @@ module _ (s : List ℕ) (c : Cursor) (v : Valid (length s) c) (l : Moved) (e : l
       carried (lexeme u n y) h =
           let b = h u n y refl in
           let a = move-by s c n (omega (arith, t .behind, b .behind, b .ahead)) (b .inside) (t .at) (t .behind) (omega (arith, b .behind, b .ahead)) in
-          ap (Found.Whole u (kept y)) (ap (λ (x : Cursor). moveTo s x n) (t .there) ∙ sym a)
+          ap (spelledTo u (kept y)) (ap (λ (x : Cursor). moveTo s x n) (t .there) ∙ sym a)
 
     read : (field : Bool) (z : Found) → z ≡ found s d (lexemeTo field s (d .offset) (ltb (c .offset) (d .offset)) (lookahead s (d .offset)))
         → z ≡ found s c (readLexeme field s (c .offset))
