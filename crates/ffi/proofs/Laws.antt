@@ -1,50 +1,25 @@
 -- The laws of the ways out: what each function returns and leaves is what the definition says of its answer. Assumes nothing.
-use Prim.Native.Nat.{ℕ, _<_, _≤_}
-use native.Mathlib.Nat.{le-trans}
-use mathlib.Core.Bool.{true}
-use lib.Dec.{ltb}
-use borrow.Author.Tests.{ltb-true}
-use lib.Ieee.{Float}
-use mathlib.Core.Path.{_≡_, sym, subst}
+use Prim.Native.Nat.{ℕ}
+use mathlib.Core.Path.{_≡_}
 use mathlib.Core.List.{List}
-use lib.ListN.{length, set, length-set}
-use lib.Seq.{sets, length-sets}
+use lib.ListN.{set}
+use lib.Seq.{sets}
 use Rattle.lexer.specs.Text as Text
 use Rattle.lexer.specs.declared.cursor.Cursor.{Cursor}
-use Rattle.lexer.specs.declared.kind.Value.{Value}
-use Rattle.lexer.specs.declared.kind.Value.the-variants.{Float as Double}
 use Rattle.lexer.specs.declared.refusal.Fault.{Fault}
 use Rattle.lexer.specs.declared.text.Part.{Part}
 use Rattle.lexer.specs.declared.text.Part.the-variants.{Source, Scratch}
 use Rattle.lexer.specs.declared.text.TextAnswer.{TextAnswer}
-use Rattle.lexer.specs.declared.token.Answer.{Answer}
 use Rattle.lexer.specs.declared.token.Token.{Token}
 use Rattle.reader.specs.Clause as Clause
 use Rattle.reader.specs.LineCall as LineCall
 use Rattle.reader.specs.declared.clause.ClauseAnswer.{ClauseAnswer}
 use Rattle.reader.specs.declared.line_call.LineAnswer.{LineAnswer}
-use Rattle.ffi.specs.Fields.{Outcome, leaves, left, Room, kindNumber, valueKind, valueBits, bitsOf, refusedFields, cursorFields, kindFields, tokenFields, partFields, countFields, answerLeaves, answerTextLeaves, clauseLeaves, lineLeaves, with, textLeaves, ClauseLeft, LineLeft}
-
--- a field with a lower number than the count is there
-pub there : {n k : ℕ} (d : List ℕ) → Room n d → ltb k n ≡ true → k < length d
-there {n} {k} d h t = le-trans (ltb-true k n t) (h .room)
-
--- and stays there
-pub still : (d : List ℕ) (i x : ℕ) {k : ℕ} → k < length d → k < length (set d i x)
-still d i x {k} h = subst (λ (n : ℕ). k < n) (sym (length-set d i x)) h
-
--- as many stay
-pub kept : {n : ℕ} (f g : List ℕ) (i : ℕ) (xs : List ℕ) → g ≡ sets f i xs → Room n f → Room n g
-kept {n} f g i xs e h = record { room = subst (λ (d : List ℕ). n ≤ length d) (sym e) (subst (λ (k : ℕ). n ≤ k) (sym (length-sets f i xs)) (h .room)) }
+use Rattle.fields.specs.Fields.{Outcome, leaves, refusedFields, cursorFields, tokenFields}
+use Rattle.ffi.specs.Parts.{left, partFields, countFields, answerTextLeaves, clauseLeaves, lineLeaves, with, textLeaves, ClauseLeft, LineLeft}
 
 -- ---- field by field
 module _ (f : List ℕ) where
-  pub kind-set : (t : Token) (kind held bits : ℕ) → kind ≡ kindNumber (t .kind) → held ≡ valueKind (t .value) → bits ≡ valueBits (t .value) → set (set (set (set f 4 kind) 5 (t .start)) 6 held) 7 bits ≡ sets f 4 (kindFields t)
-  kind-set t kind held bits k v b = cc
-
-  pub token-set : (t : Token) (c : Cursor) (g h : List ℕ) → g ≡ sets f 0 (cursorFields c) → h ≡ sets g 4 (kindFields t) → h ≡ sets f 0 (tokenFields t c)
-  token-set t c g h e k = cc
-
   pub count-set : (n : ℕ) (c : Cursor) (g : List ℕ) → g ≡ sets f 0 (cursorFields c) → set g 4 n ≡ sets f 0 (countFields n c)
   count-set n c g e = cc
 
@@ -54,16 +29,9 @@ module _ (f : List ℕ) where
   pub scratch-set : (p : Part) (a e : ℕ) → p ≡ Scratch a e → set (set (set f 8 1) 9 a) 10 e ≡ sets f 8 (partFields p)
   scratch-set p a e h = cc
 
-pub double-bits : (v : Value) (x : Float) (r : ℕ) → v ≡ Double x → r ≡ bitsOf x → r ≡ valueBits v
-double-bits v x r h e = cc
-
 -- ---- what an answer leaves, refused or read
 module _ (f : List ℕ) where
   module _ (w : Fault) (c : Cursor) (o : Outcome) (e : o ≡ refusedFields w f) where
-    pub token-refused : (a : Answer) → a ≡ Answer.Refused w c → o ≡ answerLeaves a f
-    unfolding answerLeaves
-    token-refused a g = cc
-
     pub text-refused : (a : TextAnswer) → a ≡ TextAnswer.Refused w c → o ≡ answerTextLeaves a f
     unfolding answerTextLeaves
     text-refused a g = cc
@@ -77,10 +45,6 @@ module _ (f : List ℕ) where
     line-refused a g = cc
 
   module _ (c : Cursor) (g : List ℕ) where
-    pub token-read : (a : Answer) (t : Token) → a ≡ Answer.Read t c → g ≡ sets f 0 (tokenFields t c) → leaves 0 g ≡ answerLeaves a f
-    unfolding answerLeaves
-    token-read a t h e = cc
-
     pub clause-read : (a : ClauseAnswer) (n : ℕ) → a ≡ ClauseAnswer.Read n c → g ≡ sets f 0 (countFields n c) → leaves 0 g ≡ clauseLeaves a f
     unfolding clauseLeaves
     clause-read a n h e = cc
@@ -93,10 +57,6 @@ module _ (f : List ℕ) where
     pub text-read : (a : TextAnswer) (t : Token) (p : Part) (k : List ℕ) → a ≡ TextAnswer.Read t c p → k ≡ sets f 0 (tokenFields t c) → g ≡ sets k 8 (partFields p) → leaves 0 g ≡ answerTextLeaves a f
     unfolding answerTextLeaves
     text-read a t p k h e q = cc
-
-  -- the answer of the call that it is named after
-  pub of-call : (o : Outcome) (a b : Answer) → a ≡ b → o ≡ answerLeaves a f → o ≡ answerLeaves b f
-  of-call o a b h e = cc
 
 -- ---- the functions that lend a slice too
 module _ (s : List ℕ) (c : Cursor) (d x f g : List ℕ) (r : ℕ) where

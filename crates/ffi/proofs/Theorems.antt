@@ -1,20 +1,13 @@
--- What holds of this crate: whatever a function is given, one number returned and one content of each lent slice are permitted. The token and the number
--- function's contracts are equations, and so is the text function's; of the other two it rests on that of the clause reader. Assumes nothing.
+-- What holds of this crate: whatever a function is given, one number returned and one content of each lent slice are permitted. The number
+-- function's contract is an equation (`answer-coincides` of `fields`), and so is the text function's; of the other two it rests on that of the clause reader. Assumes nothing.
 use Prim.Native.Nat.{ℕ}
 use mathlib.Core.Path.{_≡_, sym, _∙_, ap}
 use mathlib.Core.List.{List}
 use Rattle.lexer.specs.declared.cursor.Cursor.{Cursor}
 use Rattle.lexer.specs.Text as Text
-use Rattle.lexer.specs.declared.token.Answer.{Answer}
 use Rattle.reader.proofs.Theorems.{clause-coincides, line-coincides}
-use Rattle.ffi.specs.Fields.{leaves, left, answerLeaves, clauseLeaves, lineLeaves, textLeaves, ClauseLeft, LineLeft}
-
--- one number and one content of the fields
-same : (r r′ : ℕ) (g g′ : List ℕ) → leaves r g ≡ leaves r′ g′ → (r ≡ r′) × (g ≡ g′)
-same r r′ g g′ e = (cc, cc)
-
-pub answer-coincides : (a : Answer) (f : List ℕ) (r r′ : ℕ) (g g′ : List ℕ) → leaves r g ≡ answerLeaves a f → leaves r′ g′ ≡ answerLeaves a f → (r ≡ r′) × (g ≡ g′)
-answer-coincides a f r r′ g g′ p q = same r r′ g g′ (p ∙ sym q)
+use Rattle.fields.proofs.Theorems.{same}
+use Rattle.ffi.specs.Parts.{left, clauseLeaves, lineLeaves, textLeaves, ClauseLeft, LineLeft}
 
 pub text-coincides : (o : Text.Outcome) (f : List ℕ) (r r′ : ℕ) (x x′ g g′ : List ℕ) → left r x g ≡ textLeaves o f → left r′ x′ g′ ≡ textLeaves o f → (r ≡ r′) × (x ≡ x′) × (g ≡ g′)
 text-coincides o f r r′ x x′ g g′ p q = let e = p ∙ sym q in (cc, cc, cc)

@@ -1,44 +1,22 @@
 // The C interface: the calls of `lexer` and `reader` over numbers, byte slices and lent arrays of fixed layout. `include/thrinvage.h` documents each
 // function, each field and each number for those who call it. Nothing is asked of the caller: each contract ties a function to the call it is named after.
-mod fields;
+// The token call is in `ffi_token`.
+mod parts;
 
 use fields::put_answer;
-use fields::put_clause;
-use fields::put_line;
-use fields::put_text;
 use lexer::Cursor;
 use lexer::next_number_token;
-use lexer::next_token;
 use lexer::next_token_text;
+use parts::put_clause;
+use parts::put_line;
+use parts::put_text;
 use reader::list_clause;
 use reader::read_clause;
 ghost use mathlib.Core.Path.{_≡_};
-ghost use Rattle.lexer.specs.Token.{nextToken, nextNumberToken};
+ghost use Rattle.lexer.specs.Token.{nextNumberToken};
 ghost use Rattle.lexer.specs.Text.{nextTokenText};
-ghost use Rattle.ffi.specs.Fields.{cursorAt, leaves, left, answerLeaves, textLeaves, ClauseLeft, LineLeft};
-
-#[no_mangle]
-pub extern "C" fn thrinvage_next_token(
-    text: &[u8],
-    offset: usize,
-    line: usize,
-    column: usize,
-    token: &mut [u64; 8],
-) -> u32
-    ensures { λ r. ⌜ leaves r (now (token .exit)) ≡ answerLeaves (nextToken (now (text .entry)) (cursorAt offset line column)) (now (token .entry)) ⌝ }
-{
-    put_answer(
-        next_token(
-            text,
-            Cursor {
-                offset,
-                line,
-                column,
-            },
-        ),
-        token,
-    )
-}
+ghost use Rattle.fields.specs.Fields.{cursorAt, leaves, answerLeaves};
+ghost use Rattle.ffi.specs.Parts.{left, textLeaves, ClauseLeft, LineLeft};
 
 #[no_mangle]
 pub extern "C" fn thrinvage_next_number_token(

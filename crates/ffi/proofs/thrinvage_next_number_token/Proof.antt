@@ -1,6 +1,6 @@
 -- `ffi::thrinvage_next_number_token` meets its contract. Assumes nothing.
 use borrow.Author.Needs.{needs}
-use Rattle.ffi.proofs.Laws.{of-call}
+use Rattle.fields.proofs.Laws.{of-call}
 use Rattle.ffi.proofs.thrinvage_next_number_token.Statement.{statement}
 use Rattle.ffi.proofs.thrinvage_next_number_token.Tie as tie
 

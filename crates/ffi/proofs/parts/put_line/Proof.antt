@@ -1,0 +1,37 @@
+-- `ffi::parts::put_line` meets its contract. Assumes nothing.
+use borrow.Author.Needs.{needs}
+use Rattle.ffi.proofs.Laws.{line-refused, line-read}
+use Rattle.ffi.proofs.parts.put_line.Statement.{statement}
+use Rattle.ffi.proofs.parts.put_line.Tie as tie
+
+ruleset ways = (line-refused, line-read, needs)
+
+-- answers
+enum-known-answer : tie.Need-enum-known-answer
+enum-known-answer c = search ways
+
+put-fault-requires : tie.Need-put-fault-requires
+put-fault-requires c κs = search ways
+
+enum-known-answer-2 : tie.Need-enum-known-answer-2
+enum-known-answer-2 c = search ways
+
+put-count-requires : tie.Need-put-count-requires
+put-count-requires c κs = search ways
+
+returns : tie.Need-returns
+returns c = search ways
+
+returns-2 : tie.Need-returns-2
+returns-2 c = search ways
+
+pub put-line-spec : {M : Type 1} → statement M
+put-line-spec =
+    tie.close
+    (tie.spec
+    enum-known-answer
+    put-fault-requires
+    enum-known-answer-2
+    put-count-requires
+    returns
+    returns-2)

@@ -1,0 +1,55 @@
+-- The laws of the ways out: what each function returns and leaves is what the definition says of its answer. Assumes nothing.
+use Prim.Native.Nat.{ℕ, _<_, _≤_}
+use native.Mathlib.Nat.{le-trans}
+use mathlib.Core.Bool.{true}
+use lib.Dec.{ltb}
+use borrow.Author.Tests.{ltb-true}
+use lib.Ieee.{Float}
+use mathlib.Core.Path.{_≡_, sym, subst}
+use mathlib.Core.List.{List}
+use lib.ListN.{length, set, length-set}
+use lib.Seq.{sets, length-sets}
+use Rattle.lexer.specs.declared.cursor.Cursor.{Cursor}
+use Rattle.lexer.specs.declared.kind.Value.{Value}
+use Rattle.lexer.specs.declared.kind.Value.the-variants.{Float as Double}
+use Rattle.lexer.specs.declared.refusal.Fault.{Fault}
+use Rattle.lexer.specs.declared.token.Answer.{Answer}
+use Rattle.lexer.specs.declared.token.Token.{Token}
+use Rattle.fields.specs.Fields.{Outcome, leaves, Room, kindNumber, valueKind, valueBits, bitsOf, refusedFields, cursorFields, kindFields, tokenFields, answerLeaves}
+
+-- a field with a lower number than the count is there
+pub there : {n k : ℕ} (d : List ℕ) → Room n d → ltb k n ≡ true → k < length d
+there {n} {k} d h t = le-trans (ltb-true k n t) (h .room)
+
+-- and stays there
+pub still : (d : List ℕ) (i x : ℕ) {k : ℕ} → k < length d → k < length (set d i x)
+still d i x {k} h = subst (λ (n : ℕ). k < n) (sym (length-set d i x)) h
+
+-- as many stay
+pub kept : {n : ℕ} (f g : List ℕ) (i : ℕ) (xs : List ℕ) → g ≡ sets f i xs → Room n f → Room n g
+kept {n} f g i xs e h = record { room = subst (λ (d : List ℕ). n ≤ length d) (sym e) (subst (λ (k : ℕ). n ≤ k) (sym (length-sets f i xs)) (h .room)) }
+
+-- ---- field by field
+module _ (f : List ℕ) where
+  pub kind-set : (t : Token) (kind held bits : ℕ) → kind ≡ kindNumber (t .kind) → held ≡ valueKind (t .value) → bits ≡ valueBits (t .value) → set (set (set (set f 4 kind) 5 (t .start)) 6 held) 7 bits ≡ sets f 4 (kindFields t)
+  kind-set t kind held bits k v b = cc
+
+  pub token-set : (t : Token) (c : Cursor) (g h : List ℕ) → g ≡ sets f 0 (cursorFields c) → h ≡ sets g 4 (kindFields t) → h ≡ sets f 0 (tokenFields t c)
+  token-set t c g h e k = cc
+
+pub double-bits : (v : Value) (x : Float) (r : ℕ) → v ≡ Double x → r ≡ bitsOf x → r ≡ valueBits v
+double-bits v x r h e = cc
+
+-- ---- what an answer leaves, refused or read
+module _ (f : List ℕ) where
+  pub token-refused : (w : Fault) (c : Cursor) (o : Outcome) → o ≡ refusedFields w f → (a : Answer) → a ≡ Answer.Refused w c → o ≡ answerLeaves a f
+  unfolding answerLeaves
+  token-refused w c o e a g = cc
+
+  pub token-read : (c : Cursor) (g : List ℕ) (a : Answer) (t : Token) → a ≡ Answer.Read t c → g ≡ sets f 0 (tokenFields t c) → leaves 0 g ≡ answerLeaves a f
+  unfolding answerLeaves
+  token-read c g a t h e = cc
+
+  -- the answer of the call that it is named after
+  pub of-call : (o : Outcome) (a b : Answer) → a ≡ b → o ≡ answerLeaves a f → o ≡ answerLeaves b f
+  of-call o a b h e = cc

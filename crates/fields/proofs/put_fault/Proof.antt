@@ -1,0 +1,27 @@
+-- `fields::put_fault` meets its contract. Assumes nothing.
+use borrow.Author.Needs.{needs}
+use Rattle.fields.proofs.Laws.{there}
+use Rattle.fields.proofs.put_fault.Statement.{statement}
+use Rattle.fields.proofs.put_fault.Tie as tie
+
+ruleset ways = (there, needs)
+
+-- answers
+slice-write-fields : tie.Need-slice-write-fields
+slice-write-fields c = search ways
+
+refusal-number-requires : tie.Need-refusal-number-requires
+refusal-number-requires c κs = search ways
+
+cast-result : tie.Need-cast-result
+cast-result c = search ways
+
+same-length : tie.Need-same-length
+same-length c = search ways
+
+returns : tie.Need-returns
+returns c = search ways
+
+pub put-fault-spec : {M : Type 1} → statement M
+put-fault-spec =
+    tie.close (tie.spec slice-write-fields refusal-number-requires cast-result same-length returns)

@@ -1,0 +1,141 @@
+// The fields of a token, in the order of the struct of `include/thrinvage.h`, for the crates that make up the C interface. Those of a refusal are left
+// as they were, but for its offset.
+use lexer::Answer;
+use lexer::Cursor;
+use lexer::Fault;
+use lexer::Kind;
+use lexer::Token;
+use lexer::Value;
+use lexer::refusal_number;
+ghost use mathlib.Core.Path.{_≡_};
+ghost use lib.Seq.{sets};
+ghost use Rattle.fields.specs.Fields.{leaves, kindNumber, valueKind, valueBits, bitsOf, refusedFields, cursorFields, kindFields, tokenFields, answerLeaves, Room};
+
+const OFFSET: usize = 0;
+
+const LINE: usize = 1;
+
+const COLUMN: usize = 2;
+
+const REFUSED_AT: usize = 3;
+
+const KIND: usize = 4;
+
+const START: usize = 5;
+
+const VALUE_KIND: usize = 6;
+
+const VALUE: usize = 7;
+
+// What is returned where nothing is refused.
+pub const READ: u32 = 0;
+
+// The number of a token's kind.
+fn kind_number(kind: Kind) -> u64
+    ensures { λ r. ⌜ r ≡ kindNumber kind ⌝ }
+{
+    match kind {
+        Kind::Name => 0,
+        Kind::Variable => 1,
+        Kind::String => 2,
+        Kind::Number => 3,
+        Kind::Open => 4,
+        Kind::OpenCT => 5,
+        Kind::Close => 6,
+        Kind::OpenList => 7,
+        Kind::CloseList => 8,
+        Kind::OpenCurly => 9,
+        Kind::CloseCurly => 10,
+        Kind::HeadTailSeparator => 11,
+        Kind::DoubleBar => 12,
+        Kind::Comma => 13,
+        Kind::End => 14,
+    }
+}
+
+// The bits of a double that is no NaN. No token's value is one, since it is nearest to a fraction: the test stands in for carrying that proof here.
+fn bits_of(x: f64) -> u64
+    ensures { λ r. ⌜ r ≡ bitsOf x ⌝ }
+{
+    if x == x {
+        return f64::to_bits(x);
+    }
+    0
+}
+
+fn value_kind(value: Value) -> u64
+    ensures { λ r. ⌜ r ≡ valueKind value ⌝ }
+{
+    match value {
+        Value::Nothing => 0,
+        Value::Integer(_) => 1,
+        Value::Float(_) => 2,
+    }
+}
+
+fn value_bits(value: Value) -> u64
+    ensures { λ r. ⌜ r ≡ valueBits value ⌝ }
+{
+    match value {
+        Value::Nothing => 0,
+        Value::Integer(n) => n,
+        Value::Float(x) => bits_of(x),
+    }
+}
+
+// A refusal: its offset is put down, and its number handed back.
+pub fn put_fault(fault: Fault, fields: &mut [u64]) -> u32
+    requires { ⌜ Room 5 (now fields) ⌝ }
+    ensures { λ r. ⌜ leaves r (now (fields .exit)) ≡ refusedFields fault (now (fields .entry)) ⌝ }
+{
+    fields[REFUSED_AT] = fault.offset as u64;
+    let refusal = fault.refusal;
+    refusal_number(refusal) as u32
+}
+
+// The cursor behind what was read.
+pub fn put_cursor(next: Cursor, fields: &mut [u64])
+    requires { ⌜ Room 5 (now fields) ⌝ }
+    ensures { λ _. ⌜ now (fields .exit) ≡ sets (now (fields .entry)) 0 (cursorFields next) ⌝ }
+{
+    fields[OFFSET] = next.offset as u64;
+    fields[LINE] = next.line as u64;
+    fields[COLUMN] = next.column as u64;
+    fields[REFUSED_AT] = 0;
+}
+
+// A token's kind, its start and its value.
+fn put_kind(token: Token, fields: &mut [u64])
+    requires { ⌜ Room 8 (now fields) ⌝ }
+    ensures { λ _. ⌜ now (fields .exit) ≡ sets (now (fields .entry)) 4 (kindFields token) ⌝ }
+{
+    let kind = token.kind;
+    let value = token.value;
+    let number = kind_number(kind);
+    let held = value_kind(value);
+    let bits = value_bits(value);
+    fields[KIND] = number;
+    fields[START] = token.start as u64;
+    fields[VALUE_KIND] = held;
+    fields[VALUE] = bits;
+}
+
+pub fn put_token(token: Token, next: Cursor, fields: &mut [u64])
+    requires { ⌜ Room 8 (now fields) ⌝ }
+    ensures { λ _. ⌜ now (fields .exit) ≡ sets (now (fields .entry)) 0 (tokenFields token next) ⌝ }
+{
+    put_cursor(next, fields);
+    put_kind(token, fields);
+}
+
+pub fn put_answer(answer: Answer, fields: &mut [u64; 8]) -> u32
+    ensures { λ r. ⌜ leaves r (now (fields .exit)) ≡ answerLeaves answer (now (fields .entry)) ⌝ }
+{
+    match answer {
+        Answer::Refused { fault, cursor: _ } => put_fault(fault, fields),
+        Answer::Read { token, next } => {
+            put_token(token, next, fields);
+            READ
+        }
+    }
+}
