@@ -52,9 +52,10 @@ soloName at e x =
     (cond (eqb x semicolon) (Plain.Whole Name Nothing e)
     (Plain.Refused (fault NoToken at)))
 
--- 6.4.2: name token that begins with x, at `at`, and is not quoted: letter digit token, graphic token, cut or semicolon
+-- 6.4.2: a name that begins with x, at `at`, which is no letter: graphic token, cut or semicolon
+abbrev pub symbolName : List ℕ → ℕ → ℕ → Plain
+symbolName s at x = cond (is graphicTokenChar x) (graphicToken s at) (soloName at (at + 1) x)
+
+-- 6.4.2: name token that begins with x, at `at`, and is not quoted: letter digit token, or the others
 unfoldable pub nameToken : List ℕ → ℕ → ℕ → Plain
-nameToken s at x =
-    cond (is smallLetter x) (runToken Name (alphanumerics s (at + 1)))
-    (cond (is graphicTokenChar x) (graphicToken s at)
-    (soloName at (at + 1) x))
+nameToken s at x = cond (is smallLetter x) (runToken Name (alphanumerics s (at + 1))) (symbolName s at x)

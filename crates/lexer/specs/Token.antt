@@ -5,7 +5,7 @@ use mathlib.Core.Bool.{Bool, true, false, cond}
 use mathlib.Core.List.{List, []}
 use lib.Dec.{eqb, ltb}
 use lib.ListN.{length, getD}
-use Rattle.lexer.specs.Chars.{is, capitalLetter, underscoreChar, decimalDigit, layoutChar, soloChar, quoteChar, newline, doubleQuote, percent, singleQuote, openParen, closeParen, comma, point, openBracket, closeBracket, openBrace, closeBrace, bar}
+use Rattle.lexer.specs.Chars.{is, smallLetter, capitalLetter, underscoreChar, decimalDigit, layoutChar, soloChar, quoteChar, newline, doubleQuote, percent, singleQuote, openParen, closeParen, comma, point, openBracket, closeBracket, openBrace, closeBrace, bar}
 use Rattle.lexer.specs.Cursor.{longest, valid, moveTo, Valid}
 use Rattle.lexer.specs.Digits.{isDigit, beyond}
 use Rattle.lexer.specs.Float.{floatValue}
@@ -222,10 +222,16 @@ pub record AtDigit (s : List ℕ) (at : ℕ) : Type 0 where
   pub at-digit : At s at digit
   pub decimal : isDigit 10 digit ≡ true
 
--- a solo character x, at an offset before n
-pub record AtSolo (n at x : ℕ) : Type 0 where
-  pub inside : at < n
-  pub solo : is soloChar x ≡ true
+-- and it is no mark
+pub record Unmarked (s : List ℕ) (at x : ℕ) : Type 0 where
+  pub at-byte : At s at x
+  pub unmarked : mark false x ≡ Mark.Other
+
+-- nor a small letter or a digit
+pub record Symbolic (s : List ℕ) (at x : ℕ) : Type 0 where
+  pub at-unmarked : Unmarked s at x
+  pub no-letter : is smallLetter x ≡ false
+  pub no-digit : is decimalDigit x ≡ false
 
 -- a valid cursor at the byte x
 pub record Begins (s : List ℕ) (c : Cursor) (x : ℕ) : Type 0 where

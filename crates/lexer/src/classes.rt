@@ -1,7 +1,7 @@
 // The classes of bytes: of each, the set of its members, as bits of two words or as the bytes themselves, whichever the
 // token call tests faster.
 ghost use mathlib.Core.Path.{_≡_};
-ghost use Rattle.lexer.specs.Chars.{classOf, is, within, member, smallLetter, capitalLetter, underscoreChar, decimalDigit, graphicTokenChar, layoutChar, soloChar, quoteChar, foreignByte};
+ghost use Rattle.lexer.specs.Chars.{classOf, is, within, member, smallLetter, capitalLetter, underscoreChar, decimalDigit, graphicTokenChar, layoutChar, quoteChar, foreignByte};
 
 const WORD: u8 = 64;
 
@@ -63,24 +63,10 @@ pub(crate) fn is_graphic(b: u8) -> bool
 pub(crate) fn is_layout(b: u8) -> bool
     ensures { λ r. ⌜ r ≡ is layoutChar b ⌝ }
 {
-    is_in(0x100000600, 0x0, b)
-}
-
-pub(crate) fn is_solo(b: u8) -> bool
-    ensures { λ r. ⌜ r ≡ is soloChar b ⌝ }
-{
     match b {
-        b'!' => true,
-        b'%' => true,
-        b'(' => true,
-        b')' => true,
-        b',' => true,
-        b';' => true,
-        b'[' => true,
-        b']' => true,
-        b'{' => true,
-        b'|' => true,
-        b'}' => true,
+        b'\t' => true,
+        b'\n' => true,
+        b' ' => true,
         _ => false,
     }
 }
@@ -100,14 +86,10 @@ pub(crate) fn is_quote(b: u8) -> bool
 pub(crate) fn is_foreign(b: u8) -> bool
     ensures { λ r. ⌜ r ≡ is foreignByte b ⌝ }
 {
-    if b < b' ' {
-        if b == b'\n' {
-            return false;
-        }
-        if b == b'\t' {
-            return false;
-        }
-        return true;
+    match b {
+        b'\t' => false,
+        b'\n' => false,
+        b' '..=b'~' => false,
+        _ => true,
     }
-    b'~' < b
 }

@@ -2,7 +2,6 @@
 use crate::classes::is_alphanumeric;
 use crate::classes::is_foreign;
 use crate::classes::is_graphic;
-use crate::classes::is_small;
 use crate::cursor::Scan;
 use crate::kind::Kind;
 use crate::kind::Plain;
@@ -10,13 +9,13 @@ use crate::kind::Value;
 use crate::refusal::Fault;
 use crate::refusal::Refusal;
 ghost use mathlib.Core.Path.{_≡_};
-ghost use Prim.Native.Nat.{_<_};
+ghost use Prim.Native.Nat.{_+_, _<_};
 ghost use lib.ListN.{length};
 ghost use Rattle.lexer.specs.Chars.{classOf};
 ghost use Rattle.lexer.specs.declared.kind.Kind.the-variants.{Name};
 ghost use Rattle.lexer.specs.declared.kind.Value.the-variants.{Nothing};
 ghost use Rattle.lexer.specs.declared.kind.Plain.{Plain};
-ghost use Rattle.lexer.specs.Name.{runStop, runToken, alphanumerics, graphics, graphicToken, soloName, variableToken, nameToken};
+ghost use Rattle.lexer.specs.Name.{runStop, runToken, alphanumerics, graphics, graphicToken, soloName, symbolName, variableToken};
 
 // A run stops before the byte `b`, unless that is foreign.
 fn run_stop(at: usize, b: u8) -> Scan
@@ -110,7 +109,7 @@ pub(crate) fn graphic_token(text: &[u8], at: usize) -> Plain
 }
 
 // The name that the solo character `b` is, from `at` to `end`, if it is one.
-pub(crate) fn solo_name(at: usize, end: usize, b: u8) -> Plain
+fn solo_name(at: usize, end: usize, b: u8) -> Plain
     ensures { λ r. ⌜ r ≡ soloName at end b ⌝ }
 {
     if b == b'!' {
@@ -125,14 +124,20 @@ pub(crate) fn solo_name(at: usize, end: usize, b: u8) -> Plain
     }
 }
 
-// The name that begins with `b`, at `at`.
-pub(crate) fn name_token(text: &[u8], at: usize, b: u8) -> Plain
+// The name that the small letter at `at` begins.
+pub(crate) fn letter_name(text: &[u8], at: usize) -> Plain
     requires { ⌜ at < length (now text) ⌝ }
-    ensures { λ r. ⌜ r ≡ nameToken (now (text .entry)) at b ⌝ }
+    ensures { λ r. ⌜ r ≡ runToken Name (alphanumerics (now (text .entry)) (at + 1)) ⌝ }
 {
-    if is_small(b) {
-        run_token(Kind::Name, alphanumeric_end(text, at + 1))
-    } else if is_graphic(b) {
+    run_token(Kind::Name, alphanumeric_end(text, at + 1))
+}
+
+// The name that begins with `b`, at `at`, which is no small letter.
+pub(crate) fn symbol_name(text: &[u8], at: usize, b: u8) -> Plain
+    requires { ⌜ at < length (now text) ⌝ }
+    ensures { λ r. ⌜ r ≡ symbolName (now (text .entry)) at b ⌝ }
+{
+    if is_graphic(b) {
         graphic_token(text, at)
     } else {
         solo_name(at, at + 1, b)

@@ -7,7 +7,7 @@ use crate::classes::is_capital;
 use crate::classes::is_digit;
 use crate::classes::is_layout;
 use crate::classes::is_quote;
-use crate::classes::is_solo;
+use crate::classes::is_small;
 use crate::classes::is_underscore;
 use crate::cursor::Cursor;
 use crate::cursor::Moved;
@@ -22,8 +22,8 @@ use crate::kind::Plain;
 use crate::kind::Value;
 use crate::layout::scan_for_layout;
 use crate::name::graphic_token;
-use crate::name::name_token;
-use crate::name::solo_name;
+use crate::name::letter_name;
+use crate::name::symbol_name;
 use crate::name::variable_token;
 use crate::number::NumberToken;
 use crate::number::Numeral;
@@ -33,10 +33,10 @@ use crate::quoted::measure_quoted;
 use crate::refusal::Fault;
 use crate::refusal::Refusal;
 ghost use mathlib.Core.Path.{_≡_};
-ghost use mathlib.Core.Bool.{true, false};
+ghost use mathlib.Core.Bool.{true, false, cond};
 ghost use Prim.Native.Nat.{_+_, _<_};
 ghost use lib.ListN.{length};
-ghost use Rattle.lexer.specs.Cursor.{Valid, moveTo};
+ghost use Rattle.lexer.specs.Cursor.{longest, Valid, moveTo};
 ghost use Rattle.lexer.specs.Refusal.{fault};
 ghost use Rattle.lexer.specs.declared.refusal.Refusal.the-variants.{NoToken, OutOfLimit};
 ghost use Rattle.lexer.specs.declared.token.Answer.{Answer};
@@ -46,7 +46,7 @@ ghost use Rattle.lexer.specs.declared.kind.Value.{Value};
 ghost use Rattle.lexer.specs.Number.{numberToken};
 ghost use Rattle.lexer.specs.Quoted.{decode};
 ghost use Rattle.lexer.specs.Look.{lookahead};
-ghost use Rattle.lexer.specs.Token.{mark, barToken, endToken, soloToken, valued, numbered, plainToken, plainNumber, plain, textOf, kept, plainLexeme, quotedTo, quotedLexeme, lexemeTo, readLexeme, answered, notValid, call, nextToken, nextNumberToken, spelledTo, found, At, AtDigit, AtSolo, Begins, Passing};
+ghost use Rattle.lexer.specs.Token.{mark, barToken, endToken, valued, numbered, plainToken, plain, textOf, kept, plainLexeme, quotedTo, quotedLexeme, lexemeTo, readLexeme, answered, notValid, call, nextToken, nextNumberToken, spelledTo, found, At, AtDigit, Unmarked, Symbolic, Begins, Passing};
 
 // A token, whose span ends where the cursor behind it stands.
 pub struct Token {
@@ -141,23 +141,6 @@ fn end_token(text: &[u8], at: usize) -> Plain
     }
 }
 
-// The token that begins with the solo character `b`.
-fn solo_token(text: &[u8], at: usize, b: u8, layout: bool) -> Plain
-    requires { ⌜ AtSolo (length (now text)) at b ⌝ }
-    ensures { λ r. ⌜ r ≡ soloToken (now (text .entry)) at layout b ⌝ }
-{
-    match mark_of(b, layout) {
-        Mark::Is(kind) => whole(kind, at + 1),
-        Mark::Other => {
-            if b == b'|' {
-                bar_token(text, at)
-            } else {
-                solo_name(at, at + 1, b)
-            }
-        }
-    }
-}
-
 fn out_of_limit(at: usize) -> Plain
     ensures { λ r. ⌜ r ≡ Plain.Refused (fault OutOfLimit at) ⌝ }
 {
@@ -220,47 +203,63 @@ fn whole_number(text: &[u8], at: usize, field: bool) -> Plain
     }
 }
 
-// The token at `at` that begins with `b` and is not quoted.
-fn plain_token(text: &[u8], at: usize, layout: bool, b: u8) -> Plain
-    requires { ⌜ At (now text) at b ⌝ }
-    ensures { λ r. ⌜ r ≡ plainToken (now (text .entry)) at layout b ⌝ }
+// The token at `at` that begins with a character `b` that only the token call takes, or with a symbol.
+fn plain_token(text: &[u8], at: usize, b: u8) -> Plain
+    requires { ⌜ Symbolic (now text) at b ⌝ }
+    ensures { λ r. ⌜ r ≡ plainToken (now (text .entry)) at false b ⌝ }
 {
-    if is_solo(b) {
-        solo_token(text, at, b, layout)
-    } else if is_capital(b) {
+    if is_capital(b) {
         variable_token(text, at)
     } else if is_underscore(b) {
         variable_token(text, at)
-    } else if is_digit(b) {
-        whole_number(text, at, false)
     } else if b == b'.' {
         end_token(text, at)
+    } else if b == b'|' {
+        bar_token(text, at)
     } else {
-        name_token(text, at, b)
+        symbol_name(text, at, b)
     }
 }
 
-// The same for the number call.
-fn plain_number(text: &[u8], at: usize, b: u8) -> Plain
-    requires { ⌜ At (now text) at b ⌝ }
-    ensures { λ r. ⌜ r ≡ plainNumber (now (text .entry)) at b ⌝ }
+// The token at `at` that begins with `b`, which is no mark: most begin with a small letter.
+fn unmarked_token(text: &[u8], at: usize, field: bool, b: u8) -> Plain
+    requires { ⌜ Unmarked (now text) at b ⌝ }
+    ensures { λ r. ⌜ r ≡ plain field (now (text .entry)) at false b ⌝ }
 {
-    if is_digit(b) {
-        whole_number(text, at, true)
+    if is_small(b) {
+        letter_name(text, at)
+    } else if is_digit(b) {
+        whole_number(text, at, field)
+    } else if field {
+        symbol_name(text, at, b)
     } else {
-        name_token(text, at, b)
+        plain_token(text, at, b)
     }
 }
 
-// The one for the call.
+// A mark, which a field does not take.
+fn mark_token(kind: Kind, at: usize, field: bool) -> Plain
+    requires { ⌜ at < longest ⌝ }
+    ensures { λ r. ⌜ r ≡ cond field (Plain.Refused (fault NoToken at)) (Plain.Whole kind Value.Nothing (at + 1)) ⌝ }
+{
+    if field {
+        Plain::Refused(Fault {
+            refusal: Refusal::NoToken,
+            offset: at,
+        })
+    } else {
+        whole(kind, at + 1)
+    }
+}
+
+// The token at `at` that begins with `b` and is not quoted. Marks come first: they are half of all tokens.
 fn plain_read(text: &[u8], at: usize, layout: bool, field: bool, b: u8) -> Plain
     requires { ⌜ At (now text) at b ⌝ }
     ensures { λ r. ⌜ r ≡ plain field (now (text .entry)) at layout b ⌝ }
 {
-    if field {
-        plain_number(text, at, b)
-    } else {
-        plain_token(text, at, layout, b)
+    match mark_of(b, layout) {
+        Mark::Is(kind) => mark_token(kind, at, field),
+        Mark::Other => unmarked_token(text, at, field, b),
     }
 }
 

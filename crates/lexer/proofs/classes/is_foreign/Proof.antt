@@ -1,43 +1,46 @@
 -- `lexer::classes::is_foreign` meets its contract: one test over all bytes, which antt computes. Assumes nothing.
 use Prim.Native.Nat.{ℕ, _<_, _≤_}
 use mathlib.Core.Path.{_≡_}
-use mathlib.Core.Bool.{Bool, true, false, cond, not}
+use mathlib.Core.Bool.{Bool, true, false, cond, not, _&&_}
 use borrow.Author.Needs.{needs}
-use borrow.Author.Tests.{lt-ltb, le-ltb, ne-eqb}
-use lib.Dec.{ltb, eqb}
-use Rattle.lexer.specs.Chars.{classOf, is, among, tab, newline, space, foreignByte}
+use borrow.Author.Tests.{lt-ltb, le-ltb, le-leb, lt-leb, ne-eqb}
+use lib.Dec.{leb, ltb, eqb}
+use Rattle.lexer.specs.Chars.{classOf, is, tab, newline, space, foreignByte}
 use Rattle.lexer.proofs.Table.{agreed}
 use Rattle.lexer.proofs.classes.is_foreign.Statement.{statement}
 use Rattle.lexer.proofs.classes.is_foreign.Tie as tie
 
--- the last printable byte
-abbrev tilde : ℕ
-tilde = 126
+-- the byte behind the last printable one
+abbrev delete : ℕ
+delete = 127
 
 -- what the code tests
 abbrev tested : ℕ → Bool
-tested x = cond (ltb x space) (cond (eqb x newline) false (cond (eqb x tab) false true)) (ltb tilde x)
+tested x = cond (eqb x tab) false (cond (eqb x newline) false (not (leb space x && ltb x delete)))
 
 module _ (b : ℕ) (h : b < 256) where
   rule : tested b ≡ is foreignByte b
   unfolding classOf
   rule = agreed tested (is foreignByte) 256 tt b h
 
-  module _ (l : b < space) where
-    new-line : b ≡ newline → false ≡ is foreignByte b
-    new-line e = cc (rule, lt-ltb b space l)
+  a-tab : b ≡ tab → false ≡ is foreignByte b
+  a-tab e = cc rule
 
-    module _ (n : b ≡ newline → ⊥) where
-      a-tab : b ≡ tab → false ≡ is foreignByte b
-      a-tab e = cc (rule, lt-ltb b space l)
+  new-line : b ≡ newline → false ≡ is foreignByte b
+  new-line e = cc rule
 
-      control : (b ≡ tab → ⊥) → true ≡ is foreignByte b
-      control t = cc (rule, lt-ltb b space l, ne-eqb b newline n, ne-eqb b tab t)
+  module _ (t : b ≡ tab → ⊥) (n : b ≡ newline → ⊥) where
+    control : b < space → true ≡ is foreignByte b
+    control l = cc (rule, ne-eqb b tab t, ne-eqb b newline n, lt-leb space b l)
 
-  above : space ≤ b → ltb tilde b ≡ is foreignByte b
-  above l = cc (rule, le-ltb b space l)
+    module _ (l : space ≤ b) where
+      printable : b < delete → false ≡ is foreignByte b
+      printable m = cc (rule, ne-eqb b tab t, ne-eqb b newline n, le-leb space b l, lt-ltb b delete m)
 
-ruleset ways = (new-line, a-tab, control, above, needs)
+      above : delete ≤ b → true ≡ is foreignByte b
+      above m = cc (rule, ne-eqb b tab t, ne-eqb b newline n, le-leb space b l, le-ltb b delete m)
+
+ruleset ways = (a-tab, new-line, control, printable, above, needs)
 
 -- answers
 returns : tie.Need-returns
@@ -52,5 +55,8 @@ returns-3 c = search ways
 returns-4 : tie.Need-returns-4
 returns-4 c = search ways
 
+returns-5 : tie.Need-returns-5
+returns-5 c = search ways
+
 pub is-foreign-spec : {M : Type 1} → statement M
-is-foreign-spec = tie.close (tie.spec returns returns-2 returns-3 returns-4)
+is-foreign-spec = tie.close (tie.spec returns returns-2 returns-3 returns-4 returns-5)

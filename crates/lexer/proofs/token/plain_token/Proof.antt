@@ -1,70 +1,56 @@
 -- `lexer::token::plain_token` meets its contract. Assumes nothing.
 use Prim.Native.Nat.{ℕ, _<_}
-use mathlib.Core.Path.{_≡_, sym, _∙_}
-use mathlib.Core.Bool.{Bool, true, false}
+use mathlib.Core.Path.{_≡_, refl, sym, _∙_}
+use mathlib.Core.Bool.{Bool, true, false, cond}
 use mathlib.Core.List.{List}
 use borrow.Author.Needs.{needs}
 use borrow.Author.Tests.{eqb-true, ne-eqb}
 use lib.ListN.{length}
-use Rattle.lexer.specs.Chars.{classOf, is, capitalLetter, underscoreChar, decimalDigit, soloChar, point}
-use Rattle.lexer.specs.Name.{variableToken, nameToken}
-use Rattle.lexer.specs.Number.{numberToken}
-use Rattle.lexer.specs.Token.{endToken, soloToken, numbered, plainToken, At, AtDigit, AtSolo}
+use Rattle.lexer.specs.Chars.{classOf, is, capitalLetter, underscoreChar, soloChar, point, bar}
+use Rattle.lexer.specs.Name.{variableToken, symbolName, nameToken}
+use Rattle.lexer.specs.Token.{barToken, endToken, soloTo, plainToken, Symbolic}
 use Rattle.lexer.specs.declared.kind.Plain.{Plain}
 use Rattle.lexer.proofs.Looks.{look-byte}
-use Rattle.lexer.proofs.Promises.{class-digit}
 use Rattle.lexer.proofs.token.plain_token.Statement.{statement}
 use Rattle.lexer.proofs.token.plain_token.Tie as tie
 
+either : (t : Bool) (p : Plain) → cond t p p ≡ p
+either true p = refl
+either false p = refl
+
 -- the ways out, over plain values: the tests say of what class the first byte b is, p is what was read
-module _ (s : List ℕ) (at b : ℕ) where
-  inside : At s at b → at < length s
-  inside w = look-byte s at b (w .there) .inside
+module _ (s : List ℕ) (at b : ℕ) (w : Symbolic s at b) where
+  inside : at < length s
+  inside = look-byte s at b (w .at-unmarked .at-byte .there) .inside
 
-  at-digit : (d : Bool) → d ≡ is decimalDigit b → At s at b → d ≡ true → AtDigit s at
-  at-digit d e w f = record { digit = b; at-digit = w; decimal = class-digit b (eqb-true (classOf b) decimalDigit (sym e ∙ f)) }
-
-  at-solo : (o : Bool) → o ≡ is soloChar b → At s at b → o ≡ true → AtSolo (length s) at b
-  at-solo o e w f = record { inside = inside w; solo = sym e ∙ f }
-
-  module _ (t : Bool) (p : Plain) (o : Bool) (e : o ≡ is soloChar b) where
-    solo : o ≡ true → p ≡ soloToken s at t b → p ≡ plainToken s at t b
+  module _ (p : Plain) (k : Bool) (e : k ≡ is capitalLetter b) where
+    capital : k ≡ true → p ≡ variableToken s at → p ≡ plainToken s at false b
     unfolding plainToken
-    solo f g = cc (eqb-true (classOf b) soloChar (sym e ∙ f))
+    capital f g = cc (eqb-true (classOf b) capitalLetter (sym e ∙ f))
 
-    module _ (f : o ≡ false) (k : Bool) (g : k ≡ is capitalLetter b) where
-      capital : k ≡ true → p ≡ variableToken s at → p ≡ plainToken s at t b
+    module _ (f : k ≡ false) (u : Bool) (g : u ≡ is underscoreChar b) where
+      underscore : u ≡ true → p ≡ variableToken s at → p ≡ plainToken s at false b
       unfolding plainToken
-      capital h i = cc (eqb-true (classOf b) capitalLetter (sym g ∙ h))
+      underscore h i = cc (eqb-true (classOf b) underscoreChar (sym g ∙ h))
 
-      module _ (h : k ≡ false) (u : Bool) (i : u ≡ is underscoreChar b) where
-        underscore : u ≡ true → p ≡ variableToken s at → p ≡ plainToken s at t b
-        unfolding plainToken
-        underscore j l = cc (eqb-true (classOf b) underscoreChar (sym i ∙ j))
+      module _ (h : u ≡ false) where
+        end-mark : b ≡ point → p ≡ endToken s at → p ≡ plainToken s at false b
+        unfolding plainToken classOf
+        end-mark i j = cc
 
-        module _ (j : u ≡ false) (d : Bool) (l : d ≡ is decimalDigit b) where
-          number : d ≡ true → p ≡ numbered false at (numberToken s at) → p ≡ plainToken s at t b
-          unfolding plainToken
-          number m n = cc
+        module _ (i : b ≡ point → ⊥) where
+          a-bar : b ≡ bar → p ≡ barToken s at → p ≡ plainToken s at false b
+          unfolding plainToken soloTo classOf
+          a-bar j l = cc (w .at-unmarked .unmarked)
 
-          module _ (m : d ≡ false) where
-            end-mark : b ≡ point → p ≡ endToken s at → p ≡ plainToken s at t b
-            unfolding plainToken
-            end-mark n q = cc
+          -- solo or not, it is read as a name
+          a-name : (b ≡ bar → ⊥) → p ≡ symbolName s at b → p ≡ plainToken s at false b
+          unfolding plainToken soloTo nameToken
+          a-name j l = cc (w .at-unmarked .unmarked, w .no-letter, w .no-digit, ne-eqb b point i, ne-eqb b bar j, either (is soloChar b) p)
 
-            a-name : (b ≡ point → ⊥) → p ≡ nameToken s at b → p ≡ plainToken s at t b
-            unfolding plainToken
-            a-name n q = cc (ne-eqb b point n)
-
-ruleset ways = (inside, at-digit, at-solo, number, solo, capital, underscore, end-mark, a-name, needs)
+ruleset ways = (inside, capital, underscore, end-mark, a-bar, a-name, needs)
 
 -- answers
-is-solo-requires : tie.Need-is-solo-requires
-is-solo-requires c κs = search ways
-
-solo-token-requires : tie.Need-solo-token-requires
-solo-token-requires c κs = search ways
-
 is-capital-requires : tie.Need-is-capital-requires
 is-capital-requires c κs = search ways
 
@@ -77,17 +63,14 @@ is-underscore-requires c κs = search ways
 variable-token-requires-2 : tie.Need-variable-token-requires-2
 variable-token-requires-2 c κs = search ways
 
-is-digit-requires : tie.Need-is-digit-requires
-is-digit-requires c κs = search ways
-
-whole-number-requires : tie.Need-whole-number-requires
-whole-number-requires c κs = search ways
-
 end-token-requires : tie.Need-end-token-requires
 end-token-requires c κs = search ways
 
-name-token-requires : tie.Need-name-token-requires
-name-token-requires c κs = search ways
+bar-token-requires : tie.Need-bar-token-requires
+bar-token-requires c κs = search ways
+
+symbol-name-requires : tie.Need-symbol-name-requires
+symbol-name-requires c κs = search ways
 
 returns : tie.Need-returns
 returns c = search ways
@@ -104,26 +87,19 @@ returns-4 c = search ways
 returns-5 : tie.Need-returns-5
 returns-5 c = search ways
 
-returns-6 : tie.Need-returns-6
-returns-6 c = search ways
-
 pub plain-token-spec : {M : Type 1} → statement M
 plain-token-spec =
     tie.close
     (tie.spec
-    is-solo-requires
-    solo-token-requires
     is-capital-requires
     variable-token-requires
     is-underscore-requires
     variable-token-requires-2
-    is-digit-requires
-    whole-number-requires
     end-token-requires
-    name-token-requires
+    bar-token-requires
+    symbol-name-requires
     returns
     returns-2
     returns-3
     returns-4
-    returns-5
-    returns-6)
+    returns-5)
