@@ -1,6 +1,6 @@
 -- Names and variables that are not quoted: ISO 6.4.2 and 6.4.3. Definitions only.
 use Prim.Native.Nat.{ℕ, _+_}
-use mathlib.Core.Bool.{cond}
+use mathlib.Core.Bool.{Bool, true, cond}
 use mathlib.Core.List.{List, [], _∷_}
 use lib.Dec.{eqb}
 use lib.ListN.{drop}
@@ -59,3 +59,15 @@ symbolName s at x = cond (is graphicTokenChar x) (graphicToken s at) (soloName a
 -- 6.4.2: name token that begins with x, at `at`, and is not quoted: letter digit token, or the others
 unfoldable pub nameToken : List ℕ → ℕ → ℕ → Plain
 nameToken s at x = cond (is smallLetter x) (runToken Name (alphanumerics s (at + 1))) (symbolName s at x)
+
+-- ---- the code's order: names and variables together, by their first character x, a letter or an underscore
+
+abbrev pub wordKind : ℕ → Kind
+wordKind x = cond (is smallLetter x) Name Variable
+
+-- 01: the number call, `field`, reads no variable
+abbrev pub wordTaken : Bool → ℕ → Bool
+wordTaken field x = cond field (is smallLetter x) true
+
+abbrev pub wordToken : Bool → List ℕ → ℕ → ℕ → Plain
+wordToken field s at x = cond (wordTaken field x) (runToken (wordKind x) (alphanumerics s (at + 1))) (Plain.Refused (fault NoToken at))

@@ -5,7 +5,7 @@ use mathlib.Core.Bool.{Bool, true, false, cond}
 use mathlib.Core.List.{List, []}
 use lib.Dec.{eqb, ltb}
 use lib.ListN.{length, getD}
-use Rattle.lexer.specs.Chars.{is, smallLetter, capitalLetter, underscoreChar, decimalDigit, layoutChar, soloChar, quoteChar, newline, doubleQuote, percent, singleQuote, openParen, closeParen, comma, point, openBracket, closeBracket, openBrace, closeBrace, bar}
+use Rattle.lexer.specs.Chars.{classOf, is, within, smallLetter, capitalLetter, underscoreChar, decimalDigit, layoutChar, soloChar, quoteChar, newline, doubleQuote, percent, singleQuote, openParen, closeParen, comma, point, openBracket, closeBracket, openBrace, closeBrace, bar}
 use Rattle.lexer.specs.Cursor.{longest, valid, moveTo, Valid}
 use Rattle.lexer.specs.Digits.{isDigit, beyond}
 use Rattle.lexer.specs.Float.{floatValue}
@@ -227,10 +227,10 @@ pub record Unmarked (s : List ℕ) (at x : ℕ) : Type 0 where
   pub at-byte : At s at x
   pub unmarked : mark false x ≡ Mark.Other
 
--- nor a small letter or a digit
+-- nor a letter, the underscore or a digit
 pub record Symbolic (s : List ℕ) (at x : ℕ) : Type 0 where
   pub at-unmarked : Unmarked s at x
-  pub no-letter : is smallLetter x ≡ false
+  pub no-letter : within smallLetter underscoreChar (classOf x) ≡ false
   pub no-digit : is decimalDigit x ≡ false
 
 -- a valid cursor at the byte x

@@ -1,7 +1,7 @@
 // The classes of bytes: of each, the set of its members, as bits of two words or as the bytes themselves, whichever the
 // token call tests faster.
 ghost use mathlib.Core.Path.{_≡_};
-ghost use Rattle.lexer.specs.Chars.{classOf, is, within, member, smallLetter, capitalLetter, underscoreChar, decimalDigit, graphicTokenChar, layoutChar, quoteChar, foreignByte};
+ghost use Rattle.lexer.specs.Chars.{classOf, is, within, member, smallLetter, underscoreChar, decimalDigit, graphicTokenChar, layoutChar, quoteChar, foreignByte};
 
 const WORD: u8 = 64;
 
@@ -24,25 +24,26 @@ fn is_in(low: u64, high: u64, b: u8) -> bool
 pub(crate) fn is_small(b: u8) -> bool
     ensures { λ r. ⌜ r ≡ is smallLetter b ⌝ }
 {
-    is_in(0x0, 0x7fffffe00000000, b)
+    match b {
+        b'a'..=b'z' => true,
+        _ => false,
+    }
 }
 
-pub(crate) fn is_capital(b: u8) -> bool
-    ensures { λ r. ⌜ r ≡ is capitalLetter b ⌝ }
+// A letter or the underscore.
+pub(crate) fn is_alphabetic(b: u8) -> bool
+    ensures { λ r. ⌜ r ≡ within smallLetter underscoreChar (classOf b) ⌝ }
 {
-    is_in(0x0, 0x7fffffe, b)
-}
-
-pub(crate) fn is_underscore(b: u8) -> bool
-    ensures { λ r. ⌜ r ≡ is underscoreChar b ⌝ }
-{
-    is_in(0x0, 0x80000000, b)
+    is_in(0x0, 0x7fffffe87fffffe, b)
 }
 
 pub(crate) fn is_digit(b: u8) -> bool
     ensures { λ r. ⌜ r ≡ is decimalDigit b ⌝ }
 {
-    is_in(0x3ff000000000000, 0x0, b)
+    match b {
+        b'0'..=b'9' => true,
+        _ => false,
+    }
 }
 
 // A letter, a digit or the underscore.

@@ -2,6 +2,7 @@
 use crate::classes::is_alphanumeric;
 use crate::classes::is_foreign;
 use crate::classes::is_graphic;
+use crate::classes::is_small;
 use crate::cursor::Scan;
 use crate::kind::Kind;
 use crate::kind::Plain;
@@ -15,7 +16,7 @@ ghost use Rattle.lexer.specs.Chars.{classOf};
 ghost use Rattle.lexer.specs.declared.kind.Kind.the-variants.{Name};
 ghost use Rattle.lexer.specs.declared.kind.Value.the-variants.{Nothing};
 ghost use Rattle.lexer.specs.declared.kind.Plain.{Plain};
-ghost use Rattle.lexer.specs.Name.{runStop, runToken, alphanumerics, graphics, graphicToken, soloName, symbolName, variableToken};
+ghost use Rattle.lexer.specs.Name.{runStop, runToken, alphanumerics, graphics, graphicToken, soloName, symbolName, wordKind, wordTaken, wordToken};
 
 // A run stops before the byte `b`, unless that is foreign.
 fn run_stop(at: usize, b: u8) -> Scan
@@ -83,13 +84,6 @@ fn run_token(kind: Kind, run: Scan) -> Plain
     }
 }
 
-pub(crate) fn variable_token(text: &[u8], at: usize) -> Plain
-    requires { ⌜ at < length (now text) ⌝ }
-    ensures { λ r. ⌜ r ≡ variableToken (now (text .entry)) at ⌝ }
-{
-    run_token(Kind::Variable, alphanumeric_end(text, at + 1))
-}
-
 // A name of one character, which ends at `end`.
 fn single_name(end: usize) -> Plain
     ensures { λ r. ⌜ r ≡ Plain.Whole Name Nothing end ⌝ }
@@ -124,12 +118,37 @@ fn solo_name(at: usize, end: usize, b: u8) -> Plain
     }
 }
 
-// The name that the small letter at `at` begins.
-pub(crate) fn letter_name(text: &[u8], at: usize) -> Plain
-    requires { ⌜ at < length (now text) ⌝ }
-    ensures { λ r. ⌜ r ≡ runToken Name (alphanumerics (now (text .entry)) (at + 1)) ⌝ }
+// What a letter or an underscore begins.
+fn word_kind(b: u8) -> Kind
+    ensures { λ r. ⌜ r ≡ wordKind b ⌝ }
 {
-    run_token(Kind::Name, alphanumeric_end(text, at + 1))
+    if is_small(b) {
+        Kind::Name
+    } else {
+        Kind::Variable
+    }
+}
+
+// A field takes no variable.
+fn is_taken(field: bool, b: u8) -> bool
+    ensures { λ r. ⌜ r ≡ wordTaken field b ⌝ }
+{
+    if field { is_small(b) } else { true }
+}
+
+// The name or variable that the letter or underscore `b` at `at` begins. One loop serves both: the kind is chosen without a branch.
+pub(crate) fn word_token(text: &[u8], at: usize, field: bool, b: u8) -> Plain
+    requires { ⌜ at < length (now text) ⌝ }
+    ensures { λ r. ⌜ r ≡ wordToken field (now (text .entry)) at b ⌝ }
+{
+    if is_taken(field, b) {
+        run_token(word_kind(b), alphanumeric_end(text, at + 1))
+    } else {
+        Plain::Refused(Fault {
+            refusal: Refusal::NoToken,
+            offset: at,
+        })
+    }
 }
 
 // The name that begins with `b`, at `at`, which is no small letter.

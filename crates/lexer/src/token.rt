@@ -3,12 +3,10 @@ use crate::chars::Look;
 use crate::chars::Peek;
 use crate::chars::lookahead_char;
 use crate::chars::peek_char;
-use crate::classes::is_capital;
+use crate::classes::is_alphabetic;
 use crate::classes::is_digit;
 use crate::classes::is_layout;
 use crate::classes::is_quote;
-use crate::classes::is_small;
-use crate::classes::is_underscore;
 use crate::cursor::Cursor;
 use crate::cursor::Moved;
 use crate::cursor::is_valid;
@@ -22,9 +20,8 @@ use crate::kind::Plain;
 use crate::kind::Value;
 use crate::layout::scan_for_layout;
 use crate::name::graphic_token;
-use crate::name::letter_name;
 use crate::name::symbol_name;
-use crate::name::variable_token;
+use crate::name::word_token;
 use crate::number::NumberToken;
 use crate::number::Numeral;
 use crate::number::number_token;
@@ -203,16 +200,12 @@ fn whole_number(text: &[u8], at: usize, field: bool) -> Plain
     }
 }
 
-// The token at `at` that begins with a character `b` that only the token call takes, or with a symbol.
+// The token at `at` that begins with a symbol `b`: the end mark and bars, which a field does not take, or a name.
 fn plain_token(text: &[u8], at: usize, b: u8) -> Plain
     requires { ⌜ Symbolic (now text) at b ⌝ }
     ensures { λ r. ⌜ r ≡ plainToken (now (text .entry)) at false b ⌝ }
 {
-    if is_capital(b) {
-        variable_token(text, at)
-    } else if is_underscore(b) {
-        variable_token(text, at)
-    } else if b == b'.' {
+    if b == b'.' {
         end_token(text, at)
     } else if b == b'|' {
         bar_token(text, at)
@@ -221,13 +214,13 @@ fn plain_token(text: &[u8], at: usize, b: u8) -> Plain
     }
 }
 
-// The token at `at` that begins with `b`, which is no mark: most begin with a small letter.
+// The token at `at` that begins with `b`, which is no mark.
 fn unmarked_token(text: &[u8], at: usize, field: bool, b: u8) -> Plain
     requires { ⌜ Unmarked (now text) at b ⌝ }
     ensures { λ r. ⌜ r ≡ plain field (now (text .entry)) at false b ⌝ }
 {
-    if is_small(b) {
-        letter_name(text, at)
+    if is_alphabetic(b) {
+        word_token(text, at, field, b)
     } else if is_digit(b) {
         whole_number(text, at, field)
     } else if field {
