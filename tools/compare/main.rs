@@ -61,7 +61,7 @@ const ARCHIVE: Option<(Ask, &str)> = None;
 impl Source {
     fn archive() -> Source {
         let Some((ask, _)) = ARCHIVE else {
-            eprintln!("compare: target/native/libffi.a is missing, or was when tools/compare/build ran: nothing is compared");
+            eprintln!("compare: target/native/libthrinvage.a is missing, or was when tools/compare/build ran: nothing is compared");
             std::process::exit(2)
         };
         Source::Archive(ask)

@@ -11,18 +11,13 @@ use Rattle.lexer.specs.declared.text.Part.{Part}
 use Rattle.lexer.specs.declared.text.Part.the-variants.{Source, Scratch}
 use Rattle.lexer.specs.declared.text.TextAnswer.{TextAnswer}
 use Rattle.lexer.specs.declared.token.Token.{Token}
-use Rattle.reader.specs.Clause as Clause
 use Rattle.reader.specs.LineCall as LineCall
-use Rattle.reader.specs.declared.clause.ClauseAnswer.{ClauseAnswer}
 use Rattle.reader.specs.declared.line_call.LineAnswer.{LineAnswer}
-use Rattle.fields.specs.Fields.{Outcome, leaves, refusedFields, cursorFields, tokenFields}
-use Rattle.ffi.specs.Parts.{left, partFields, countFields, answerTextLeaves, clauseLeaves, lineLeaves, with, textLeaves, ClauseLeft, LineLeft}
+use Rattle.fields.specs.Fields.{Outcome, leaves, refusedFields, tokenFields, countFields}
+use Rattle.ffi.specs.Parts.{left, partFields, answerTextLeaves, lineLeaves, with, textLeaves, LineLeft}
 
 -- ---- field by field
 module _ (f : List ℕ) where
-  pub count-set : (n : ℕ) (c : Cursor) (g : List ℕ) → g ≡ sets f 0 (cursorFields c) → set g 4 n ≡ sets f 0 (countFields n c)
-  count-set n c g e = cc
-
   pub source-set : (p : Part) (a e : ℕ) → p ≡ Source a e → set (set (set f 8 0) 9 a) 10 e ≡ sets f 8 (partFields p)
   source-set p a e h = cc
 
@@ -36,19 +31,11 @@ module _ (f : List ℕ) where
     unfolding answerTextLeaves
     text-refused a g = cc
 
-    pub clause-refused : (a : ClauseAnswer) → a ≡ ClauseAnswer.Refused w c → o ≡ clauseLeaves a f
-    unfolding clauseLeaves
-    clause-refused a g = cc
-
     pub line-refused : (a : LineAnswer) → a ≡ LineAnswer.Refused w c → o ≡ lineLeaves a f
     unfolding lineLeaves
     line-refused a g = cc
 
   module _ (c : Cursor) (g : List ℕ) where
-    pub clause-read : (a : ClauseAnswer) (n : ℕ) → a ≡ ClauseAnswer.Read n c → g ≡ sets f 0 (countFields n c) → leaves 0 g ≡ clauseLeaves a f
-    unfolding clauseLeaves
-    clause-read a n h e = cc
-
     pub line-read : (a : LineAnswer) (n : ℕ) → a ≡ LineAnswer.Read n c → g ≡ sets f 0 (countFields n c) → leaves 0 g ≡ lineLeaves a f
     unfolding lineLeaves
     line-read a n h e = cc
@@ -63,9 +50,6 @@ module _ (s : List ℕ) (c : Cursor) (d x f g : List ℕ) (r : ℕ) where
   pub text-left : (a : TextAnswer) → Text.leaves a x ≡ Text.nextTokenText s c d → leaves r g ≡ answerTextLeaves a f → left r x g ≡ textLeaves (Text.nextTokenText s c d) f
   unfolding textLeaves with
   text-left a h e = cc
-
-  pub clause-left : (a : ClauseAnswer) → Clause.Outcome s c d a x → leaves r g ≡ clauseLeaves a f → ClauseLeft s c d x f g r
-  clause-left a h e = record { answer = a; permitted = h; told = e }
 
   pub line-left : (a : LineAnswer) → LineCall.LineOutcome s c d a x → leaves r g ≡ lineLeaves a f → LineLeft s c d x f g r
   line-left a h e = record { answer = a; permitted = h; told = e }

@@ -1,24 +1,18 @@
 -- What holds of this crate: whatever a function is given, one number returned and one content of each lent slice are permitted. The number
--- function's contract is an equation (`answer-coincides` of `fields`), and so is the text function's; of the other two it rests on that of the clause reader. Assumes nothing.
+-- function's contract is an equation (`answer-coincides` of `fields`), and so is the text function's; of the line function it rests on that of the line call. Assumes nothing.
 use Prim.Native.Nat.{ℕ}
 use mathlib.Core.Path.{_≡_, sym, _∙_, ap}
 use mathlib.Core.List.{List}
 use Rattle.lexer.specs.declared.cursor.Cursor.{Cursor}
 use Rattle.lexer.specs.Text as Text
-use Rattle.reader.proofs.Theorems.{clause-coincides, line-coincides}
+use Rattle.reader.proofs.Theorems.{line-coincides}
 use Rattle.fields.proofs.Theorems.{same}
-use Rattle.ffi.specs.Parts.{left, clauseLeaves, lineLeaves, textLeaves, ClauseLeft, LineLeft}
+use Rattle.ffi.specs.Parts.{left, lineLeaves, textLeaves, LineLeft}
 
 pub text-coincides : (o : Text.Outcome) (f : List ℕ) (r r′ : ℕ) (x x′ g g′ : List ℕ) → left r x g ≡ textLeaves o f → left r′ x′ g′ ≡ textLeaves o f → (r ≡ r′) × (x ≡ x′) × (g ≡ g′)
 text-coincides o f r r′ x x′ g g′ p q = let e = p ∙ sym q in (cc, cc, cc)
 
 module _ (s : List ℕ) (c : Cursor) (d f x x′ g g′ : List ℕ) (r r′ : ℕ) where
-  pub clause-left-coincides : ClauseLeft s c d x f g r → ClauseLeft s c d x′ f g′ r′ → (r ≡ r′) × (x ≡ x′) × (g ≡ g′)
-  clause-left-coincides p q =
-      let e = clause-coincides s c d (p .permitted) (q .permitted) in
-      let k = same r r′ g g′ (p .told ∙ ap (λ a. clauseLeaves a f) (e .0) ∙ sym (q .told)) in
-      (k .0, e .1, k .1)
-
   pub line-left-coincides : LineLeft s c d x f g r → LineLeft s c d x′ f g′ r′ → (r ≡ r′) × (x ≡ x′) × (g ≡ g′)
   line-left-coincides p q =
       let e = line-coincides s c d (p .permitted) (q .permitted) in

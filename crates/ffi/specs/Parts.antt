@@ -1,37 +1,27 @@
--- The C interface: what the text, clause and line functions return and leave, from the answer of the call that each is named after; the token's fields and
--- a refusal's are in `crates/fields/specs`. Definitions only.
+-- The C interface: what the text and line functions return and leave, from the answer of the call that each is named after; the fields of a token, a clause
+-- and a refusal are in `crates/fields/specs`. Definitions only.
 use Prim.Native.Nat.{ℕ}
 use mathlib.Core.Path.{_≡_}
-use mathlib.Core.List.{List, [], _∷_, _++_}
+use mathlib.Core.List.{List, [], _∷_}
 use lib.Seq.{sets}
 use Rattle.lexer.specs.Text as Text
 use Rattle.lexer.specs.declared.cursor.Cursor.{Cursor}
 use Rattle.lexer.specs.declared.text.Part.{Part}
 use Rattle.lexer.specs.declared.text.Part.the-variants.{Source, Scratch}
 use Rattle.lexer.specs.declared.text.TextAnswer.{TextAnswer}
-use Rattle.reader.specs.Clause as Clause
 use Rattle.reader.specs.LineCall as LineCall
-use Rattle.reader.specs.declared.clause.ClauseAnswer.{ClauseAnswer}
 use Rattle.reader.specs.declared.line_call.LineAnswer.{LineAnswer}
-use Rattle.fields.specs.Fields.{Outcome, leaves, cursorFields, tokenFields, refusedFields}
+use Rattle.fields.specs.Fields.{Outcome, leaves, tokenFields, countFields, refusedFields}
 
 -- what struct thrinvage_token_text has behind its token: enum thrinvage_part, and the part
 abbrev pub partFields : Part → List ℕ
 partFields (Source a e) = 0 ∷ a ∷ e ∷ []
 partFields (Scratch a e) = 1 ∷ a ∷ e ∷ []
 
--- struct thrinvage_clause
-abbrev pub countFields : ℕ → Cursor → List ℕ
-countFields n c = cursorFields c ++ n ∷ []
-
 -- ---- the answers
 unfoldable pub answerTextLeaves : TextAnswer → List ℕ → Outcome
 answerTextLeaves (TextAnswer.Read t c p) d = leaves 0 (sets (sets d 0 (tokenFields t c)) 8 (partFields p))
 answerTextLeaves (TextAnswer.Refused w c) d = refusedFields w d
-
-unfoldable pub clauseLeaves : ClauseAnswer → List ℕ → Outcome
-clauseLeaves (ClauseAnswer.Read n c) d = leaves 0 (sets d 0 (countFields n c))
-clauseLeaves (ClauseAnswer.Refused w c) d = refusedFields w d
 
 unfoldable pub lineLeaves : LineAnswer → List ℕ → Outcome
 lineLeaves (LineAnswer.Read n c) d = leaves 0 (sets d 0 (countFields n c))
@@ -49,14 +39,8 @@ with x (leaves r g) = left r x g
 unfoldable pub textLeaves : Text.Outcome → List ℕ → TextOutcome
 textLeaves (Text.leaves a x) f = with x (answerTextLeaves a f)
 
--- the clause call at the cursor c of the text s: the tree slice d is left as x, the fields f as g, and r is returned. Two that are permitted coincide
--- (proofs/Theorems)
-pub record ClauseLeft (s : List ℕ) (c : Cursor) (d x f g : List ℕ) (r : ℕ) : Type 0 where
-  pub answer : ClauseAnswer
-  pub permitted : Clause.Outcome s c d answer x
-  pub told : leaves r g ≡ clauseLeaves answer f
-
--- the same of the call that lists a clause, over the slice for its line
+-- the line call at the cursor c of the text s: the slice d for the line is left as x, the fields f as g, and r is returned. Two that are permitted
+-- coincide (proofs/Theorems)
 pub record LineLeft (s : List ℕ) (c : Cursor) (d x f g : List ℕ) (r : ℕ) : Type 0 where
   pub answer : LineAnswer
   pub permitted : LineCall.LineOutcome s c d answer x

@@ -1,22 +1,20 @@
 // The C interface: the calls of `lexer` and `reader` over numbers, byte slices and lent arrays of fixed layout. `include/thrinvage.h` documents each
 // function, each field and each number for those who call it. Nothing is asked of the caller: each contract ties a function to the call it is named after.
-// The token call is in `ffi_token`.
+// The token call is in `ffi_token`, the clause call in `ffi_clause`.
 mod parts;
 
 use fields::put_answer;
 use lexer::Cursor;
 use lexer::next_number_token;
 use lexer::next_token_text;
-use parts::put_clause;
 use parts::put_line;
 use parts::put_text;
 use reader::list_clause;
-use reader::read_clause;
 ghost use mathlib.Core.Path.{_≡_};
 ghost use Rattle.lexer.specs.Token.{nextNumberToken};
 ghost use Rattle.lexer.specs.Text.{nextTokenText};
 ghost use Rattle.fields.specs.Fields.{cursorAt, leaves, answerLeaves};
-ghost use Rattle.ffi.specs.Parts.{left, textLeaves, ClauseLeft, LineLeft};
+ghost use Rattle.ffi.specs.Parts.{left, textLeaves, LineLeft};
 
 #[no_mangle]
 pub extern "C" fn thrinvage_next_number_token(
@@ -63,31 +61,6 @@ pub extern "C" fn thrinvage_next_token_text(
             scratch,
         ),
         token,
-    )
-}
-
-#[no_mangle]
-pub extern "C" fn thrinvage_read_clause(
-    text: &[u8],
-    offset: usize,
-    line: usize,
-    column: usize,
-    tree: &mut [u16],
-    clause: &mut [u64; 5],
-) -> u32
-    ensures { λ r. ⌜ ClauseLeft (now (text .entry)) (cursorAt offset line column) (now (tree .entry)) (now (tree .exit)) (now (clause .entry)) (now (clause .exit)) r ⌝ }
-{
-    put_clause(
-        read_clause(
-            text,
-            Cursor {
-                offset,
-                line,
-                column,
-            },
-            tree,
-        ),
-        clause,
     )
 }
 

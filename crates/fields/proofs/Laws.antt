@@ -15,7 +15,7 @@ use Rattle.lexer.specs.declared.kind.Value.the-variants.{Float as Double}
 use Rattle.lexer.specs.declared.refusal.Fault.{Fault}
 use Rattle.lexer.specs.declared.token.Answer.{Answer}
 use Rattle.lexer.specs.declared.token.Token.{Token}
-use Rattle.fields.specs.Fields.{Outcome, leaves, Room, kindNumber, valueKind, valueBits, bitsOf, refusedFields, cursorFields, kindFields, tokenFields, answerLeaves}
+use Rattle.fields.specs.Fields.{Outcome, leaves, Room, kindNumber, valueKind, valueBits, bitsOf, refusedFields, cursorFields, kindFields, tokenFields, countFields, answerLeaves}
 
 -- a field with a lower number than the count is there
 pub there : {n k : ℕ} (d : List ℕ) → Room n d → ltb k n ≡ true → k < length d
@@ -36,6 +36,9 @@ module _ (f : List ℕ) where
 
   pub token-set : (t : Token) (c : Cursor) (g h : List ℕ) → g ≡ sets f 0 (cursorFields c) → h ≡ sets g 4 (kindFields t) → h ≡ sets f 0 (tokenFields t c)
   token-set t c g h e k = cc
+
+  pub count-set : (n : ℕ) (c : Cursor) (g : List ℕ) → g ≡ sets f 0 (cursorFields c) → set g 4 n ≡ sets f 0 (countFields n c)
+  count-set n c g e = cc
 
 pub double-bits : (v : Value) (x : Float) (r : ℕ) → v ≡ Double x → r ≡ bitsOf x → r ≡ valueBits v
 double-bits v x r h e = cc

@@ -1,4 +1,4 @@
--- The C interface: what a function returns, and what it leaves in the lent fields, from the token that was read or the refusal. The fields and their
+-- The C interface: what a function returns, and what it leaves in the lent fields, from what was read or the refusal. The fields and their
 -- numbers are those of `include/thrinvage.h`. Definitions only.
 use Prim.Native.Nat.{ℕ, _≤_}
 use mathlib.Core.Bool.{cond}
@@ -72,6 +72,10 @@ kindFields t = kindNumber (t .kind) ∷ t .start ∷ valueKind (t .value) ∷ va
 -- struct thrinvage_token
 abbrev pub tokenFields : Token → Cursor → List ℕ
 tokenFields t c = cursorFields c ++ kindFields t
+
+-- struct thrinvage_clause
+abbrev pub countFields : ℕ → Cursor → List ℕ
+countFields n c = cursorFields c ++ n ∷ []
 
 -- a refusal: its number, and its offset in the fourth field
 abbrev pub refusedFields : Fault → List ℕ → Outcome

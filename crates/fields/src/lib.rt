@@ -1,4 +1,4 @@
-// The fields of a token, in the order of the struct of `include/thrinvage.h`, for the crates that make up the C interface. Those of a refusal are left
+// The fields of a token and of a clause, in the order of the structs of `include/thrinvage.h`, for the crates that make up the C interface. Those of a refusal are left
 // as they were, but for its offset.
 use lexer::Answer;
 use lexer::Cursor;
@@ -9,7 +9,7 @@ use lexer::Value;
 use lexer::refusal_number;
 ghost use mathlib.Core.Path.{_≡_};
 ghost use lib.Seq.{sets};
-ghost use Rattle.fields.specs.Fields.{leaves, kindNumber, valueKind, valueBits, bitsOf, refusedFields, cursorFields, kindFields, tokenFields, answerLeaves, Room};
+ghost use Rattle.fields.specs.Fields.{leaves, kindNumber, valueKind, valueBits, bitsOf, refusedFields, cursorFields, kindFields, tokenFields, countFields, answerLeaves, Room};
 
 const OFFSET: usize = 0;
 
@@ -26,6 +26,9 @@ const START: usize = 5;
 const VALUE_KIND: usize = 6;
 
 const VALUE: usize = 7;
+
+// Of a clause: the nodes of its tree, or the bytes of its line.
+const COUNT: usize = 4;
 
 // What is returned where nothing is refused.
 pub const READ: u32 = 0;
@@ -126,6 +129,15 @@ pub fn put_token(token: Token, next: Cursor, fields: &mut [u64])
 {
     put_cursor(next, fields);
     put_kind(token, fields);
+}
+
+// What was counted, and the cursor behind the clause.
+pub fn put_count(count: usize, next: Cursor, fields: &mut [u64])
+    requires { ⌜ Room 5 (now fields) ⌝ }
+    ensures { λ _. ⌜ now (fields .exit) ≡ sets (now (fields .entry)) 0 (countFields count next) ⌝ }
+{
+    put_cursor(next, fields);
+    fields[COUNT] = count as u64;
 }
 
 pub fn put_answer(answer: Answer, fields: &mut [u64; 8]) -> u32

@@ -16,7 +16,7 @@ fn is_in(low: u64, high: u64, b: u8) -> bool
         return (low >> b) % 2 == 1;
     }
     if b < TWO_WORDS {
-        return (high >> (b - WORD)) % 2 == 1;
+        return (high >> (b % WORD)) % 2 == 1;
     }
     false
 }

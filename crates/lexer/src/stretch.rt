@@ -9,14 +9,14 @@ pub(crate) const NONE: u8 = 0;
 fn in_stretch(first: u8, last: u8, but: u8, nor: u8, b: u8) -> bool
     ensures { λ r. ⌜ r ≡ inStretch first last but nor b ⌝ }
 {
-    if b == but {
+    if b < first {
         false
-    } else if b == nor {
+    } else if last < b {
         false
-    } else if b < first {
+    } else if b == but {
         false
     } else {
-        b <= last
+        b != nor
     }
 }
 

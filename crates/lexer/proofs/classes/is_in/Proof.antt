@@ -2,6 +2,7 @@
 use Prim.Native.Nat.{ℕ, _-_, _/_, _%_, _^_, _<_, _≤_}
 use mathlib.Core.Path.{_≡_}
 use mathlib.Core.Bool.{false}
+use native.Mathlib.Omega.{arith}
 use borrow.Author.Needs.{needs}
 use borrow.Author.Tests.{lt-ltb, le-ltb}
 use Rattle.lexer.specs.Chars.{bit, member}
@@ -14,9 +15,9 @@ module _ (lo hi b : ℕ) where
   low h = cc (lt-ltb b 64 h)
 
   module _ (h : 64 ≤ b) where
-    high : b < 128 → bit hi (b - 64) ≡ member lo hi b
+    high : b < 128 → bit hi (b % 64) ≡ member lo hi b
     unfolding member
-    high g = cc (le-ltb b 64 h, lt-ltb b 128 g)
+    high g = let e : b % 64 ≡ b - 64 = omega (arith, h, g) in cc (le-ltb b 64 h, lt-ltb b 128 g)
 
     beyond : 128 ≤ b → false ≡ member lo hi b
     unfolding member

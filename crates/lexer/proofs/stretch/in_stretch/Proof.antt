@@ -1,30 +1,41 @@
 -- `lexer::stretch::in_stretch` meets its contract. Assumes nothing.
 use Prim.Native.Nat.{ℕ, _<_, _≤_}
-use mathlib.Core.Path.{_≡_}
-use mathlib.Core.Bool.{false}
+use mathlib.Core.Path.{_≡_, refl, sym}
+use mathlib.Core.Bool.{Bool, true, false, cond, not}
 use borrow.Author.Needs.{needs}
 use borrow.Author.Tests.{eq-eqb, ne-eqb, le-leb, lt-leb}
-use lib.Dec.{leb}
+use lib.Dec.{eqb}
+use Rattle.lexer.specs.Chars.{within}
 use Rattle.lexer.specs.Stretch.{inStretch}
 use Rattle.lexer.proofs.stretch.in_stretch.Statement.{statement}
 use Rattle.lexer.proofs.stretch.in_stretch.Tie as tie
 
+-- the code tests the range first
+outside : (u v w : Bool) → w ≡ false → false ≡ cond u false (cond v false w)
+outside true v w e = refl
+outside false true w e = refl
+outside false false w e = sym e
+
+inside : (v w : Bool) → w ≡ true → not v ≡ cond v false w
+inside true w e = refl
+inside false w e = sym e
+
 module _ (a b p q x : ℕ) where
-  but : x ≡ p → false ≡ inStretch a b p q x
-  but e = cc (eq-eqb x p e)
+  below : x < a → false ≡ inStretch a b p q x
+  below l = outside (eqb x p) (eqb x q) (within a b x) (cc (lt-leb a x l))
 
-  module _ (n : x ≡ p → ⊥) where
-    nor : x ≡ q → false ≡ inStretch a b p q x
-    nor e = cc (ne-eqb x p n, eq-eqb x q e)
+  module _ (h : a ≤ x) where
+    above : b < x → false ≡ inStretch a b p q x
+    above l = outside (eqb x p) (eqb x q) (within a b x) (cc (le-leb a x h, lt-leb x b l))
 
-    module _ (m : x ≡ q → ⊥) where
-      below : x < a → false ≡ inStretch a b p q x
-      below l = cc (ne-eqb x p n, ne-eqb x q m, lt-leb a x l)
+    module _ (g : x ≤ b) where
+      but : x ≡ p → false ≡ inStretch a b p q x
+      but e = cc (eq-eqb x p e)
 
-      not-below : a ≤ x → leb x b ≡ inStretch a b p q x
-      not-below l = cc (ne-eqb x p n, ne-eqb x q m, le-leb a x l)
+      nor : (x ≡ p → ⊥) → not (eqb x q) ≡ inStretch a b p q x
+      nor n = let t = inside (eqb x q) (within a b x) (cc (le-leb a x h, le-leb x b g)) in cc (ne-eqb x p n)
 
-ruleset ways = (but, nor, below, not-below, needs)
+ruleset ways = (below, above, but, nor, needs)
 
 -- answers
 returns : tie.Need-returns

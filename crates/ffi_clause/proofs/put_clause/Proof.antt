@@ -1,8 +1,8 @@
--- `ffi::parts::put_clause` meets its contract. Assumes nothing.
+-- `ffi_clause::put_clause` meets its contract. Assumes nothing.
 use borrow.Author.Needs.{needs}
-use Rattle.ffi.proofs.Laws.{clause-refused, clause-read}
-use Rattle.ffi.proofs.parts.put_clause.Statement.{statement}
-use Rattle.ffi.proofs.parts.put_clause.Tie as tie
+use Rattle.ffi_clause.proofs.Laws.{clause-refused, clause-read}
+use Rattle.ffi_clause.proofs.put_clause.Statement.{statement}
+use Rattle.ffi_clause.proofs.put_clause.Tie as tie
 
 ruleset ways = (clause-refused, clause-read, needs)
 

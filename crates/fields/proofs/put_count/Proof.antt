@@ -1,9 +1,8 @@
--- `ffi::parts::put_count` meets its contract. Assumes nothing.
+-- `fields::put_count` meets its contract. Assumes nothing.
 use borrow.Author.Needs.{needs}
-use Rattle.ffi.proofs.Laws.{count-set}
-use Rattle.fields.proofs.Laws.{there, still}
-use Rattle.ffi.proofs.parts.put_count.Statement.{statement}
-use Rattle.ffi.proofs.parts.put_count.Tie as tie
+use Rattle.fields.proofs.Laws.{count-set, there, still}
+use Rattle.fields.proofs.put_count.Statement.{statement}
+use Rattle.fields.proofs.put_count.Tie as tie
 
 ruleset ways = (there, still, count-set, needs)
 
