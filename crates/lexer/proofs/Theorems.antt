@@ -12,7 +12,7 @@ use Rattle.lexer.specs.Float.{Limits, Scale, scale, over, under, floatVa
 use Rattle.lexer.specs.Layout.{commentText}
 use Rattle.lexer.specs.Nearest.{Nearest}
 use Rattle.lexer.specs.Refusal.{numberOf, fault}
-use Rattle.lexer.specs.Text.{leaves, nextTokenText, shown}
+use Rattle.lexer.specs.Text.{leaves, nextTokenText, shown, counts, quotedText}
 use Rattle.lexer.specs.Token.{nextToken, nextNumberToken}
 use Rattle.lexer.specs.declared.refusal.Fault.{Fault}
 use Rattle.lexer.specs.declared.refusal.Refusal.{Refusal}
@@ -48,6 +48,10 @@ module _ (s : List ℕ) (c : Cursor) where
   -- the text call: its answer, and what it leaves in the scratch d
   pub text-coincides : (d : List ℕ) (a b : TextAnswer) (x y : List ℕ) → leaves a x ≡ nextTokenText s c d → leaves b y ≡ nextTokenText s c d → (a ≡ b) × (x ≡ y)
   text-coincides d a b x y p q = let e = coincide (nextTokenText s c d) (leaves a x) (leaves b y) p q in (cc, cc)
+
+-- the bytes of a quoted token: their count, and what is left in the scratch d
+pub quoted-coincides : (s : List ℕ) (at : ℕ) (d : List ℕ) (m n : ℕ) (x y : List ℕ) → counts m x ≡ quotedText s at d → counts n y ≡ quotedText s at d → (m ≡ n) × (x ≡ y)
+quoted-coincides s at d m n x y p q = let e = coincide (quotedText s at d) (counts m x) (counts n y) p q in (cc, cc)
 
 -- the show call
 pub show-coincides : (s d : List ℕ) (p : Part) (a b : List ℕ) → a ≡ shown s d p → b ≡ shown s d p → a ≡ b

@@ -1,12 +1,13 @@
 -- The text call and the show call: 01, "Tokens". Definitions only.
-use Prim.Native.Nat.{ℕ}
+use Prim.Native.Nat.{ℕ, _+_}
 use mathlib.Core.Path.{_≡_}
 use mathlib.Core.Bool.{false, cond, _&&_}
 use mathlib.Core.List.{List, []}
-use lib.Dec.{leb}
-use lib.ListN.{length}
+use lib.Dec.{leb, ltb}
+use lib.ListN.{length, getD}
 use lib.Seq.{sets}
-use Rattle.lexer.specs.Cursor.{part, valid, moveTo, Valid}
+use Rattle.lexer.specs.Cursor.{longest, part, valid, moveTo, Valid}
+use Rattle.lexer.specs.Quoted.{Quoted, decode}
 use Rattle.lexer.specs.Refusal.{fault}
 use Rattle.lexer.specs.Token.{source, decoded, none, Lexeme, lexeme, refused, readLexeme, notValid, spelledTo, found}
 use Rattle.lexer.specs.declared.refusal.Refusal.the-variants.{NoRoom, NoText}
@@ -38,6 +39,19 @@ tokenText s c d = textTold s c d (readLexeme false s (c .offset))
 -- the text call
 abbrev pub nextTokenText : List ℕ → Cursor → List ℕ → Outcome
 nextTokenText s c d = cond (valid (length s) c) (tokenText s c d) (leaves (Refused notValid c) d)
+
+-- a count, and what is left in the scratch
+pub data Counted : Type 0 where
+  counts : ℕ → List ℕ → Counted
+
+-- the bytes of a quoted token, where there is room for them
+unfoldable pub countedText : List ℕ → Quoted → Counted
+countedText d (Quoted.refused w) = counts 0 d
+countedText d (Quoted.whole bs e) = cond (leb (length bs) (length d)) (counts (length bs) (sets d 0 bs)) (counts 0 d)
+
+-- the quoted token at an offset of a text that is not too long, by itself
+abbrev pub quotedText : List ℕ → ℕ → List ℕ → Counted
+quotedText s at d = cond (ltb at (length s) && leb (length s) longest) (countedText d (decode (getD s at 0) at s (at + 1))) (counts 0 d)
 
 -- the part of a slice from a to e, or the empty part where it does not fit
 unfoldable pub fitted : ℕ → ℕ → List ℕ → List ℕ

@@ -24,6 +24,7 @@ pub use refusal::refusal_number;
 pub use text::Part;
 pub use text::TextAnswer;
 pub use text::next_token_text;
+pub use text::quoted_text;
 pub use text::show;
 pub use token::Answer;
 pub use token::Token;

@@ -1,6 +1,8 @@
 // The text call and the show call.
 use crate::cursor::Cursor;
 use crate::cursor::is_valid;
+use crate::quoted::Measure;
+use crate::quoted::measure_quoted;
 use crate::quoted::write_quoted;
 use crate::refusal::Fault;
 use crate::refusal::Refusal;
@@ -12,7 +14,7 @@ use crate::token::read_token;
 ghost use mathlib.Core.Path.{_≡_};
 ghost use lib.ListN.{length};
 ghost use Rattle.lexer.specs.Cursor.{Valid};
-ghost use Rattle.lexer.specs.Text.{leaves, tokenText, nextTokenText, shown, Reads};
+ghost use Rattle.lexer.specs.Text.{leaves, counts, tokenText, nextTokenText, quotedText, shown, Reads};
 ghost use Rattle.lexer.specs.declared.token.Spelling.{Spelling};
 
 // A part of the source text, or of the scratch.
@@ -133,6 +135,35 @@ pub fn next_token_text(text: &[u8], cursor: Cursor, scratch: &mut [u8]) -> TextA
     TextAnswer::Refused {
         fault: not_valid(),
         cursor,
+    }
+}
+
+// The bytes that the quoted token at `start` stands for are decoded to the front of the scratch, and counted. Where there is no such token, or not room
+// for its bytes, the scratch stays and the count is 0. For a caller who has read the token: it is not read again.
+pub fn quoted_text(text: &[u8], start: usize, scratch: &mut [u8]) -> usize
+    ensures { λ r. ⌜ counts r (now (scratch .exit)) ≡ quotedText (now (text .entry)) start (now (scratch .entry)) ⌝ }
+{
+    if text.len() <= start {
+        return 0;
+    }
+    let inside = Cursor {
+        offset: start + 1,
+        line: 0,
+        column: 0,
+    };
+    if !is_valid(text.len(), inside) {
+        return 0;
+    }
+    let quote = text[start];
+    match measure_quoted(text, inside, quote, start) {
+        Measure::Refused(_) => 0,
+        Measure::Whole { length, next: _ } => {
+            if scratch.len() < length {
+                return 0;
+            }
+            write_quoted(text, start + 1, quote, start, length, scratch);
+            length
+        }
     }
 }
 

@@ -7,9 +7,10 @@ use mathlib.Core.List.{List, [], _∷_}
 use lib.Dec.{leb}
 use lib.ListN.{length, getD}
 use lib.Seq.{sets}
-use Rattle.lexer.specs.Cursor.{valid, moveTo}
+use Rattle.lexer.specs.Cursor.{longest, valid, moveTo}
+use Rattle.lexer.specs.Quoted.{Quoted, decode, bytesOf}
 use Rattle.lexer.specs.Refusal.{fault}
-use Rattle.lexer.specs.Token.{Lexeme, lexeme, refused, decoded, readLexeme, nextToken, notValid}
+use Rattle.lexer.specs.Token.{Lexeme, lexeme, refused, readLexeme, nextToken, notValid}
 use Rattle.lexer.specs.declared.cursor.Cursor.{Cursor}
 use Rattle.lexer.specs.declared.refusal.Fault.{Fault}
 use Rattle.lexer.specs.declared.refusal.Refusal.the-variants.{NoRoom, TooManyTokens, NoReading}
@@ -54,13 +55,17 @@ pub record NameFrom (s : List ℕ) (c : Cursor) (t : lexer.Token) (d : Cursor) :
   pub reads : nextToken s c ≡ Answer.Read t d
   pub name : t .kind ≡ Name
 
--- a quoted name behind the cursor
-pub record QuotedFrom (s : List ℕ) (c : Cursor) : Type 0 where
-  pub valid-cursor : valid (length s) c ≡ true
-  pub token : lexer.Token
-  pub end : ℕ
+-- the bytes of the quoted token at an offset (what stands for a refusal is never asked for)
+abbrev pub quotedBytes : List ℕ → ℕ → List ℕ
+quotedBytes s at = bytesOf (decode (getD s at 0) at s (at + 1))
+
+-- a quoted token at an offset
+pub record QuotedAt (s : List ℕ) (at : ℕ) : Type 0 where
+  pub inside : at < length s
+  pub short : length s ≤ longest
   pub bytes : List ℕ
-  pub reads : readLexeme false s (c .offset) ≡ lexeme token end (decoded bytes)
+  pub end : ℕ
+  pub decodes : decode (getD s at 0) at s (at + 1) ≡ Quoted.whole bytes end
 
 -- ---- the machine over the tokens of a clause
 

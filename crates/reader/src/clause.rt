@@ -6,19 +6,16 @@ use crate::machine::put_tree;
 use crate::machine::start;
 use crate::machine::step;
 use crate::ops::roles_of;
-use crate::roles::NO_ROLES;
 use crate::roles::Roles;
 use lexer::Answer;
 use lexer::Cursor;
 use lexer::Fault;
 use lexer::Kind;
-use lexer::Part;
 use lexer::Refusal;
-use lexer::TextAnswer;
 use lexer::Token;
 use lexer::is_valid;
 use lexer::next_token;
-use lexer::next_token_text;
+use lexer::quoted_text;
 ghost use mathlib.Core.Path.{_≡_};
 ghost use mathlib.Core.Bool.{true};
 ghost use mathlib.Core.Option.{some};
@@ -31,7 +28,7 @@ ghost use Rattle.reader.specs.Roles.{rolesOf};
 ghost use Rattle.reader.specs.Machine as M;
 ghost use Rattle.reader.specs.Layout.{sightOf, stateOf, outOf};
 ghost use Rattle.reader.specs.Clause.{mostTokens, isEnd, clauseTokens, firstOffset, Outcome};
-ghost use Rattle.reader.specs.Gather.{fewTokens, tokenFrom, sightFrom, clauseRun, resultOf, leaves, nodesOf, byNodes, byTokens, byResult, ReadFrom, NameFrom, QuotedFrom, Taking, Beginning, Copied, GoingOn, Longer, Finished, Finishing};
+ghost use Rattle.reader.specs.Gather.{fewTokens, tokenFrom, sightFrom, clauseRun, resultOf, leaves, nodesOf, byNodes, byTokens, byResult, quotedBytes, ReadFrom, NameFrom, QuotedAt, Taking, Beginning, Copied, GoingOn, Longer, Finished, Finishing};
 ghost use Rattle.reader.specs.declared.clause.ClauseAnswer.{ClauseAnswer};
 
 pub enum ClauseAnswer {
@@ -39,26 +36,17 @@ pub enum ClauseAnswer {
     Refused { fault: Fault, cursor: Cursor },
 }
 
-// The roles of the quoted name behind the cursor: what does not fit in the scratch is no operator.
-fn quoted_roles(text: &[u8], c: Cursor) -> Roles
-    requires { ⌜ QuotedFrom (now text) c ⌝ }
-    ensures { λ r. ⌜ r ≡ rolesOf operators (tokenFrom (now (text .entry)) c .text) ⌝ }
+// No operator's name is longer.
+const LONGEST_NAME: usize = 3;
+
+// The roles of the quoted name at `start`: what does not fit in the scratch is no operator.
+fn quoted_roles(text: &[u8], start: usize) -> Roles
+    requires { ⌜ QuotedAt (now text) start ⌝ }
+    ensures { λ r. ⌜ r ≡ rolesOf operators (quotedBytes (now (text .entry)) start) ⌝ }
 {
-    let mut scratch = [0u8; 3];
-    match next_token_text(text, c, &mut scratch) {
-        TextAnswer::Refused {
-            fault: _,
-            cursor: _,
-        } => NO_ROLES,
-        TextAnswer::Read {
-            token: _,
-            next: _,
-            part,
-        } => match part {
-            Part::Source { start: _, end: _ } => NO_ROLES,
-            Part::Scratch { start, end } => roles_of(&scratch, start, end),
-        },
-    }
+    let mut scratch = [0u8; LONGEST_NAME];
+    let count = quoted_text(text, start, &mut scratch);
+    roles_of(&scratch, 0, count)
 }
 
 // The roles of the name that was read at the cursor. It is quoted exactly if a single quote begins it.
@@ -68,7 +56,7 @@ fn name_roles(text: &[u8], c: Cursor, token: Token, next: Cursor) -> Roles
 {
     let start = token.start;
     if text[start] == b'\'' {
-        return quoted_roles(text, c);
+        return quoted_roles(text, start);
     }
     roles_of(text, start, next.offset)
 }

@@ -1,21 +1,24 @@
 -- `reader::clause::name_roles` meets its contract: a name is quoted exactly if a single quote begins it. Assumes nothing.
 use Prim.Native.Nat.{ℕ, _-_, _<_}
-use mathlib.Core.Path.{_≡_}
+use mathlib.Core.Path.{_≡_, sym, _∙_, ap}
 use mathlib.Core.Bool.{false}
 use mathlib.Core.List.{List}
 use native.Mathlib.Omega.{arith}
 use borrow.Author.Needs.{needs}
 use lib.ListN.{length, getD, take, drop}
 use Rattle.lexer.specs.Chars.{singleQuote}
+use Rattle.lexer.specs.Quoted.{bytesOf}
 use Rattle.lexer.specs.Token.{Text, lexeme, readLexeme}
 use Rattle.lexer.specs.declared.cursor.Cursor.{Cursor}
 use Rattle.lexer.specs.declared.token.Token as lexer
+use Rattle.lexer.proofs.Cursors.{is-valid}
 use Rattle.lexer.proofs.Spellings.{NameText, quoted, unquoted, name-text}
+use Rattle.lexer.proofs.Texts.{decoded-at}
 use Rattle.reader.specs.Ops.{operators}
 use Rattle.reader.specs.Roles.{rolesOf}
 use Rattle.reader.specs.Names.{Part}
 use Rattle.reader.specs.Clause.{textIn, tokenIn}
-use Rattle.reader.specs.Gather.{tokenFrom, NameFrom, QuotedFrom}
+use Rattle.reader.specs.Gather.{tokenOf, tokenFrom, quotedBytes, NameFrom, QuotedAt}
 use Rattle.reader.specs.declared.roles.Roles.{Roles}
 use Rattle.reader.proofs.Sights.{Known, known, token-known}
 use Rattle.reader.proofs.clause.name_roles.Statement.{statement}
@@ -32,12 +35,26 @@ module _ (s : List ℕ) (c : Cursor) (t : lexer.Token) (d : Cursor) (r : NameFro
   inside = omega (arith, it .ahead, it .inside)
 
   -- the ways out
-  is-quoted : getD s (t .start) 0 ≡ singleQuote → QuotedFrom s c
-  is-quoted q = go spelt (it .reads)
-    where
-      go : {x : Text} → NameText (getD s (t .start) 0) x → readLexeme false s (c .offset) ≡ lexeme t (d .offset) x → QuotedFrom s c
-      go (quoted bs e) f = record { valid-cursor = it .valid-cursor; token = t; end = d .offset; bytes = bs; reads = f }
-      go (unquoted n) f = absurd (n q)
+  module _ (q : getD s (t .start) 0 ≡ singleQuote) where
+    is-quoted : QuotedAt s (t .start)
+    is-quoted = go spelt (it .reads)
+      where
+        go : {x : Text} → NameText (getD s (t .start) 0) x → readLexeme false s (c .offset) ≡ lexeme t (d .offset) x → QuotedAt s (t .start)
+        go (quoted bs e) f =
+            let k = decoded-at s false (c .offset) t (d .offset) bs f in
+            record { inside = inside; short = is-valid (length s) c (it .valid-cursor) .short; bytes = bs; end = d .offset; decodes = k .reads }
+        go (unquoted n) f = absurd (n q)
+
+    its-text : quotedBytes s (t .start) ≡ tokenFrom s c .text
+    unfolding tokenOf textIn bytesOf
+    its-text = go spelt (it .reads)
+      where
+        go : {x : Text} → NameText (getD s (t .start) 0) x → readLexeme false s (c .offset) ≡ lexeme t (d .offset) x → quotedBytes s (t .start) ≡ tokenFrom s c .text
+        go (quoted bs e) f = ap bytesOf (decoded-at s false (c .offset) t (d .offset) bs f .reads) ∙ sym (ap (λ l. tokenOf s l .text) f)
+        go (unquoted n) f = absurd (n q)
+
+    its-roles : (x : Roles) → x ≡ rolesOf operators (quotedBytes s (t .start)) → x ≡ rolesOf operators (tokenFrom s c .text)
+    its-roles x g = g ∙ ap (rolesOf operators) its-text
 
   there : Part s (t .start) (d .offset)
   there = record { ahead = omega (arith, it .ahead); inside = it .inside }
@@ -50,7 +67,7 @@ module _ (s : List ℕ) (c : Cursor) (t : lexer.Token) (d : Cursor) (r : NameFro
       go (quoted bs e) f = absurd (n e)
       go (unquoted m) f = cc
 
-ruleset ways = (inside, is-quoted, there, own, needs)
+ruleset ways = (inside, is-quoted, its-roles, there, own, needs)
 
 -- answers
 shared-slice-read-if1 : tie.Need-shared-slice-read-if1
