@@ -85,7 +85,7 @@ module _ (s : List ℕ) (c : Cursor) (d : List ℕ) where
           let h = leb-false (2 * length (push packed t [])) (length d) l in
           noRoom v g r (omega arith)
 
-      nodes : (o : Option Out) → nodesOf (machineAfter ts) ≡ o → Allowed (byNodes s c d e o)
+      nodes : (o : Option Out) → nodesOf (machineAfter ts) ≡ o → Allowed (byNodes (firstOffset s c) c d e o)
       unfolding byNodes
       nodes none q = noReading v g (λ t r. let p = reading-nodes ts r in let z : _≡_ {A = ℕ} 0 1 = cc in omega arith)
       nodes (some out) q =

@@ -4,7 +4,7 @@ use mathlib.Core.Path.{_≡_}
 use mathlib.Core.Bool.{Bool, true, false, cond}
 use mathlib.Core.Option.{Option, none, some}
 use mathlib.Core.List.{List, [], _∷_}
-use lib.Dec.{leb}
+use lib.Dec.{eqb, leb}
 use lib.ListN.{length, getD}
 use lib.Seq.{sets}
 use Rattle.lexer.specs.Cursor.{longest, valid, moveTo}
@@ -69,29 +69,34 @@ pub record QuotedAt (s : List ℕ) (at : ℕ) : Type 0 where
 
 -- ---- the machine over the tokens of a clause
 
--- behind the end mark, with the machine there; or a token's refusal; or behind so many tokens without a mark
+-- behind the end mark, with the offset of the clause's first token and the machine there; or a token's refusal; or behind so many tokens without a mark
 pub data Result : Type 0 where
-  finished : State → Cursor → Result
+  finished : ℕ → State → Cursor → Result
   halted : Fault → Result
-  paused : State → Cursor → Result
+  paused : ℕ → State → Cursor → Result
+
+-- where the clause's first token starts: the token t, if it is the one of index 0, else f
+abbrev pub began : ℕ → ℕ → lexer.Token → ℕ
+began i f t = cond (eqb i 0) (t .start) f
 
 -- the machine at z takes the token i, which was read from c, and goes on where it is no end mark
-unfoldable pub runOn : List ℕ → Cursor → ℕ → State → Lexeme → (State → Cursor → Result) → Result
-runOn s c i z (refused w) next = halted w
-runOn s c i z (lexeme t e x) next =
-    cond (isEnd (t .kind)) (finished (M.step packed z i (seen (tokenIn s t e x))) (moveTo s c e)) (next (M.step packed z i (seen (tokenIn s t e x))) (moveTo s c e))
+unfoldable pub runOn : List ℕ → Cursor → ℕ → ℕ → State → Lexeme → (ℕ → State → Cursor → Result) → Result
+runOn s c i f z (refused w) next = halted w
+runOn s c i f z (lexeme t e x) next =
+    cond (isEnd (t .kind)) (finished (began i f t) (M.step packed z i (seen (tokenIn s t e x))) (moveTo s c e))
+    (next (began i f t) (M.step packed z i (seen (tokenIn s t e x))) (moveTo s c e))
 
 -- n tokens at most, from the token i on
-unfoldable pub clauseRun : ℕ → ℕ → State → List ℕ → Cursor → Result
-clauseRun zero i z s c = paused z c
-clauseRun (suc n) i z s c = runOn s c i z (readLexeme false s (c .offset)) (λ y d. clauseRun n (i + 1) y s d)
+unfoldable pub clauseRun : ℕ → ℕ → ℕ → State → List ℕ → Cursor → Result
+clauseRun zero i f z s c = paused f z c
+clauseRun (suc n) i f z s c = runOn s c i f z (readLexeme false s (c .offset)) (λ g y d. clauseRun n (i + 1) g y s d)
 
 -- ---- what the code keeps of it
 
 unfoldable pub resultOf : Machined → List ℕ → List ℕ → Result
-resultOf (Machined.Whole m d) st ns = finished (stateOf m st ns) d
+resultOf (Machined.Whole f m d) st ns = finished f (stateOf m st ns) d
 resultOf (Machined.Stopped w) st ns = halted w
-resultOf (Machined.Paused m d) st ns = paused (stateOf m st ns) d
+resultOf (Machined.Paused f m d) st ns = paused f (stateOf m st ns) d
 
 -- ---- what the code asks
 
@@ -118,8 +123,7 @@ pub record Copied (few all : List ℕ) : Type 0 where
   pub words : (k : ℕ) → k < length few → getD all k 0 ≡ getD few k 0
 
 -- the machine behind the first tokens, in short slices
-pub record Longer (s : List ℕ) (c : Cursor) (m : Mode) (d : Cursor) (st ns : List ℕ) : Type 0 where
-  pub valid-cursor : valid (length s) c ≡ true
+pub record Longer (s : List ℕ) (m : Mode) (d : Cursor) (st ns : List ℕ) : Type 0 where
   pub valid-next : valid (length s) d ≡ true
   pub frames : length st ≡ fewTokens + 1
   pub nodes : length ns ≡ fewTokens + 1
@@ -127,7 +131,7 @@ pub record Longer (s : List ℕ) (c : Cursor) (m : Mode) (d : Cursor) (st ns : L
 
 -- and long ones beside them
 pub record GoingOn (s : List ℕ) (d : Cursor) (m : Mode) (st ns fs os : List ℕ) : Type 0 where
-  pub longer : Longer s d m d st ns
+  pub longer : Longer s m d st ns
   pub frames : mostTokens < length fs
   pub nodes : mostTokens < length os
 
@@ -149,34 +153,33 @@ nodesOf (done out) = some out
 abbrev pub machineAfter : List Token → State
 machineAfter ts = run packed operators start (terminals 0 ts)
 
-module _ (s : List ℕ) (c : Cursor) (d : List ℕ) where
-  unfoldable pub byNodes : Cursor → Option Out → Left
-  byNodes e none = leaves (Refused (fault NoReading (firstOffset s c)) c) d
-  byNodes e (some out) =
-      cond (leb (2 * length out) (length d)) (leaves (Read (length out) e) (sets d 0 (laid out))) (leaves (Refused (fault NoRoom (firstOffset s c)) c) d)
+-- by the nodes of a machine behind the end mark, where f is the offset of the first token
+unfoldable pub byNodes : ℕ → Cursor → List ℕ → Cursor → Option Out → Left
+byNodes f c d e none = leaves (Refused (fault NoReading f) c) d
+byNodes f c d e (some out) =
+    cond (leb (2 * length out) (length d)) (leaves (Read (length out) e) (sets d 0 (laid out))) (leaves (Refused (fault NoRoom f) c) d)
 
+module _ (s : List ℕ) (c : Cursor) (d : List ℕ) where
   unfoldable pub byTokens : Gathered → Left
   byTokens (stopped w) = leaves (Refused w c) d
   byTokens tooMany = leaves (Refused (fault TooManyTokens (firstOffset s c)) c) d
-  byTokens (whole ts e) = byNodes e (nodesOf (machineAfter ts))
+  byTokens (whole ts e) = byNodes (firstOffset s c) c d e (nodesOf (machineAfter ts))
 
   unfoldable pub clauseBy : Left
   clauseBy = cond (valid (length s) c) (byTokens (clauseTokens s c)) (leaves (Refused notValid c) d)
 
 -- the same of the run over the tokens
-unfoldable pub byResult : List ℕ → Cursor → List ℕ → Result → Left
-byResult s c d (halted w) = leaves (Refused w c) d
-byResult s c d (paused z e) = leaves (Refused (fault TooManyTokens (firstOffset s c)) c) d
-byResult s c d (finished z e) = byNodes s c d e (nodesOf z)
+unfoldable pub byResult : Cursor → List ℕ → Result → Left
+byResult c d (halted w) = leaves (Refused w c) d
+byResult c d (paused f z e) = leaves (Refused (fault TooManyTokens f) c) d
+byResult c d (finished f z e) = byNodes f c d e (nodesOf z)
 
 -- ---- what these functions ask
 
-pub record Finished (s : List ℕ) (c : Cursor) (n : ℕ) (ns : List ℕ) : Type 0 where
-  pub valid-cursor : valid (length s) c ≡ true
+pub record Finished (n : ℕ) (ns : List ℕ) : Type 0 where
   pub nodes : n ≤ length ns
   pub words : length ns ≤ mostTokens + 1
 
-pub record Finishing (s : List ℕ) (c : Cursor) (m : Mode) (st ns : List ℕ) : Type 0 where
-  pub valid-cursor : valid (length s) c ≡ true
+pub record Finishing (m : Mode) (st ns : List ℕ) : Type 0 where
   pub words : length ns ≤ mostTokens + 1
   pub weight-left : weight (stateOf m st ns) ≤ length ns

@@ -124,11 +124,19 @@ pub(crate) fn is_end(kind: Kind) -> bool
     }
 }
 
-// The machine behind the end mark of a clause, or behind so many tokens of it.
+// The machine behind the end mark of a clause, or behind so many tokens of it, with the offset of the clause's first token.
 pub enum Machined {
-    Whole { mode: Mode, next: Cursor },
+    Whole {
+        first: usize,
+        mode: Mode,
+        next: Cursor,
+    },
     Stopped(Fault),
-    Paused { mode: Mode, next: Cursor },
+    Paused {
+        first: usize,
+        mode: Mode,
+        next: Cursor,
+    },
 }
 
 // The tokens from one index to another, or to an end mark before it, are read and put to the machine, one after the other. The loop hands the mode
@@ -138,32 +146,41 @@ fn take_tokens(
     cursor: Cursor,
     from: u16,
     to: u16,
+    began: usize,
     before: Mode,
     frames: &mut [u64],
     nodes: &mut [u32],
 ) -> Machined
     requires { ⌜ Taking (now text) cursor from to before (now frames) (now nodes) ⌝ }
-    ensures { λ r. ⌜ resultOf r (now (frames .exit)) (now (nodes .exit)) ≡ clauseRun (to - from) from (stateOf before (now (frames .entry)) (now (nodes .entry))) (now (text .entry)) cursor ⌝ }
+    ensures { λ r. ⌜ resultOf r (now (frames .exit)) (now (nodes .exit)) ≡ clauseRun (to - from) from began (stateOf before (now (frames .entry)) (now (nodes .entry))) (now (text .entry)) cursor ⌝ }
 {
     let mut mode = before;
     let mut c = cursor;
     let mut index = from;
+    let mut first = began;
     while index < to {
         match next_token(text, c) {
             Answer::Refused { fault, cursor: _ } => return Machined::Stopped(fault),
             Answer::Read { token, next } => {
+                if index == 0 {
+                    first = token.start;
+                }
                 let sight = see_token(text, c, token, next);
                 mode = step(mode, index, sight, frames, nodes);
                 let kind = token.kind;
                 if is_end(kind) {
-                    return Machined::Whole { mode, next };
+                    return Machined::Whole { first, mode, next };
                 }
                 c = next;
                 index += 1;
             }
         }
     }
-    Machined::Paused { mode, next: c }
+    Machined::Paused {
+        first,
+        mode,
+        next: c,
+    }
 }
 
 // The offset of the first token.
@@ -180,15 +197,14 @@ pub(crate) fn first_offset(text: &[u8], cursor: Cursor) -> usize
     }
 }
 
-// A refusal of the whole clause.
-fn clause_refused(text: &[u8], cursor: Cursor, refusal: Refusal) -> ClauseAnswer
-    requires { ⌜ valid (length (now text)) cursor ≡ true ⌝ }
-    ensures { λ r. ⌜ r ≡ ClauseAnswer.Refused (fault refusal (firstOffset (now (text .entry)) cursor)) cursor ⌝ }
+// A refusal of the whole clause, which points at its first token.
+fn clause_refused(first: usize, cursor: Cursor, refusal: Refusal) -> ClauseAnswer
+    ensures { λ r. ⌜ r ≡ ClauseAnswer.Refused (fault refusal first) cursor ⌝ }
 {
     ClauseAnswer::Refused {
         fault: Fault {
             refusal,
-            offset: first_offset(text, cursor),
+            offset: first,
         },
         cursor,
     }
@@ -196,18 +212,18 @@ fn clause_refused(text: &[u8], cursor: Cursor, refusal: Refusal) -> ClauseAnswer
 
 // The machine stands behind the end mark, with so many nodes out.
 fn write_clause(
-    text: &[u8],
+    first: usize,
     cursor: Cursor,
     count: usize,
     next: Cursor,
     nodes: &[u32],
     tree: &mut [u16],
 ) -> ClauseAnswer
-    requires { ⌜ Finished (now text) cursor count (now nodes) ⌝ }
-    ensures { λ r. ⌜ leaves r (now (tree .exit)) ≡ byNodes (now (text .entry)) cursor (now (tree .entry)) next (some (outOf (now (nodes .entry)) count)) ⌝ }
+    requires { ⌜ Finished count (now nodes) ⌝ }
+    ensures { λ r. ⌜ leaves r (now (tree .exit)) ≡ byNodes first cursor (now (tree .entry)) next (some (outOf (now (nodes .entry)) count)) ⌝ }
 {
     if tree.len() < 2 * count {
-        return clause_refused(text, cursor, Refusal::NoRoom);
+        return clause_refused(first, cursor, Refusal::NoRoom);
     }
     put_tree(count, nodes, tree);
     ClauseAnswer::Read { nodes: count, next }
@@ -215,7 +231,7 @@ fn write_clause(
 
 // What the machine behind the end mark says.
 fn finish_clause(
-    text: &[u8],
+    first: usize,
     cursor: Cursor,
     mode: Mode,
     next: Cursor,
@@ -223,16 +239,16 @@ fn finish_clause(
     nodes: &[u32],
     tree: &mut [u16],
 ) -> ClauseAnswer
-    requires { ⌜ Finishing (now text) cursor mode (now frames) (now nodes) ⌝ }
-    ensures { λ r. ⌜ leaves r (now (tree .exit)) ≡ byNodes (now (text .entry)) cursor (now (tree .entry)) next (nodesOf (stateOf mode (now (frames .entry)) (now (nodes .entry)))) ⌝ }
+    requires { ⌜ Finishing mode (now frames) (now nodes) ⌝ }
+    ensures { λ r. ⌜ leaves r (now (tree .exit)) ≡ byNodes first cursor (now (tree .entry)) next (nodesOf (stateOf mode (now (frames .entry)) (now (nodes .entry)))) ⌝ }
 {
     match mode {
-        Mode::Done(count) => write_clause(text, cursor, count, next, nodes, tree),
-        Mode::Want(_) => clause_refused(text, cursor, Refusal::NoReading),
-        Mode::Pend(_, _) => clause_refused(text, cursor, Refusal::NoReading),
-        Mode::Begun(_, _, _) => clause_refused(text, cursor, Refusal::NoReading),
-        Mode::Have(_) => clause_refused(text, cursor, Refusal::NoReading),
-        Mode::Dead => clause_refused(text, cursor, Refusal::NoReading),
+        Mode::Done(count) => write_clause(first, cursor, count, next, nodes, tree),
+        Mode::Want(_) => clause_refused(first, cursor, Refusal::NoReading),
+        Mode::Pend(_, _) => clause_refused(first, cursor, Refusal::NoReading),
+        Mode::Begun(_, _, _) => clause_refused(first, cursor, Refusal::NoReading),
+        Mode::Have(_) => clause_refused(first, cursor, Refusal::NoReading),
+        Mode::Dead => clause_refused(first, cursor, Refusal::NoReading),
     }
 }
 
@@ -242,10 +258,10 @@ const FEW: u16 = 64;
 // The tokens from the first on.
 fn first_tokens(text: &[u8], cursor: Cursor, frames: &mut [u64], nodes: &mut [u32]) -> Machined
     requires { ⌜ Beginning (now text) cursor (now frames) (now nodes) ⌝ }
-    ensures { λ r. ⌜ resultOf r (now (frames .exit)) (now (nodes .exit)) ≡ clauseRun fewTokens 0 M.start (now (text .entry)) cursor ⌝ }
+    ensures { λ r. ⌜ resultOf r (now (frames .exit)) (now (nodes .exit)) ≡ clauseRun fewTokens 0 0 M.start (now (text .entry)) cursor ⌝ }
 {
     let mode = start(frames, nodes);
-    take_tokens(text, cursor, 0, FEW, mode, frames, nodes)
+    take_tokens(text, cursor, 0, FEW, 0, mode, frames, nodes)
 }
 
 // The short array's words stand at the front of the long one.
@@ -278,6 +294,7 @@ const MOST: u16 = 1024;
 fn more_tokens(
     text: &[u8],
     c: Cursor,
+    first: usize,
     mode: Mode,
     held: &[u64],
     out: &[u32],
@@ -285,36 +302,41 @@ fn more_tokens(
     nodes: &mut [u32],
 ) -> Machined
     requires { ⌜ GoingOn (now text) c mode (now held) (now out) (now frames) (now nodes) ⌝ }
-    ensures { λ r. ⌜ resultOf r (now (frames .exit)) (now (nodes .exit)) ≡ clauseRun (mostTokens - fewTokens) fewTokens (stateOf mode (now (held .entry)) (now (out .entry))) (now (text .entry)) c ⌝ }
+    ensures { λ r. ⌜ resultOf r (now (frames .exit)) (now (nodes .exit)) ≡ clauseRun (mostTokens - fewTokens) fewTokens first (stateOf mode (now (held .entry)) (now (out .entry))) (now (text .entry)) c ⌝ }
 {
     copy_frames(held, frames);
     copy_nodes(out, nodes);
-    take_tokens(text, c, FEW, MOST, mode, frames, nodes)
+    take_tokens(text, c, FEW, MOST, first, mode, frames, nodes)
 }
 
 // A clause of more tokens than the short arrays served. The machine takes a word for each token at most, and one before the first.
 fn long_clause(
     text: &[u8],
     cursor: Cursor,
+    first: usize,
     mode: Mode,
     c: Cursor,
     held: &[u64],
     out: &[u32],
     tree: &mut [u16],
 ) -> ClauseAnswer
-    requires { ⌜ Longer (now text) cursor mode c (now held) (now out) ⌝ }
-    ensures { λ r. ⌜ leaves r (now (tree .exit)) ≡ byResult (now (text .entry)) cursor (now (tree .entry)) (clauseRun (mostTokens - fewTokens) fewTokens (stateOf mode (now (held .entry)) (now (out .entry))) (now (text .entry)) c) ⌝ }
+    requires { ⌜ Longer (now text) mode c (now held) (now out) ⌝ }
+    ensures { λ r. ⌜ leaves r (now (tree .exit)) ≡ byResult cursor (now (tree .entry)) (clauseRun (mostTokens - fewTokens) fewTokens first (stateOf mode (now (held .entry)) (now (out .entry))) (now (text .entry)) c) ⌝ }
 {
     let mut frames = [0u64; 1025];
     let mut nodes = [0u32; 1025];
-    match more_tokens(text, c, mode, held, out, &mut frames, &mut nodes) {
+    match more_tokens(text, c, first, mode, held, out, &mut frames, &mut nodes) {
         Machined::Stopped(fault) => ClauseAnswer::Refused { fault, cursor },
-        Machined::Paused { mode: _, next: _ } => {
-            clause_refused(text, cursor, Refusal::TooManyTokens)
-        }
-        Machined::Whole { mode: last, next } => {
-            finish_clause(text, cursor, last, next, &frames, &nodes, tree)
-        }
+        Machined::Paused {
+            first: began,
+            mode: _,
+            next: _,
+        } => clause_refused(began, cursor, Refusal::TooManyTokens),
+        Machined::Whole {
+            first: began,
+            mode: last,
+            next,
+        } => finish_clause(began, cursor, last, next, &frames, &nodes, tree),
     }
 }
 
@@ -327,11 +349,11 @@ fn clause_at(text: &[u8], cursor: Cursor, tree: &mut [u16]) -> ClauseAnswer
     let mut nodes = [0u32; 65];
     match first_tokens(text, cursor, &mut frames, &mut nodes) {
         Machined::Stopped(fault) => ClauseAnswer::Refused { fault, cursor },
-        Machined::Paused { mode, next } => {
-            long_clause(text, cursor, mode, next, &frames, &nodes, tree)
+        Machined::Paused { first, mode, next } => {
+            long_clause(text, cursor, first, mode, next, &frames, &nodes, tree)
         }
-        Machined::Whole { mode, next } => {
-            finish_clause(text, cursor, mode, next, &frames, &nodes, tree)
+        Machined::Whole { first, mode, next } => {
+            finish_clause(first, cursor, mode, next, &frames, &nodes, tree)
         }
     }
 }

@@ -1,5 +1,5 @@
 -- `reader::clause::clause_at` meets its contract. Assumes nothing.
-use Prim.Native.Nat.{ℕ, _+_, _-_, _≤_}
+use Prim.Native.Nat.{ℕ, _-_}
 use mathlib.Core.Path.{_≡_, refl, sym, _∙_, ap}
 use mathlib.Core.Bool.{true}
 use mathlib.Core.List.{List}
@@ -25,38 +25,42 @@ beginning : (s : List ℕ) (c : Cursor) (st ns : List ℕ) → valid (length s) 
 beginning s c st ns v f g = record { valid-cursor = v; frames = omega arith; nodes = omega arith }
 
 -- what the first tokens came to, with the slices as they are then
-module _ (s : List ℕ) (c : Cursor) (d : List ℕ) (r : Machined) (st ns : List ℕ) (e : resultOf r st ns ≡ clauseRun fewTokens 0 start s c) where
+module _ (s : List ℕ) (c : Cursor) (d : List ℕ) (r : Machined) (st ns : List ℕ) (e : resultOf r st ns ≡ clauseRun fewTokens 0 0 start s c) where
   -- and what the whole clause comes to from there
-  told : byResult s c d (goOn 960 fewTokens s (resultOf r st ns)) ≡ byTokens s c d (clauseTokens s c)
-  told = ap (λ x. byResult s c d (goOn 960 fewTokens s x)) e ∙ ap (byResult s c d) (sym (in-two fewTokens 960 mostTokens 0 fewTokens start s c refl refl)) ∙ same-outcome s c d
+  told : (y : Machined) → r ≡ y → byResult c d (goOn 960 fewTokens s (resultOf y st ns)) ≡ byTokens s c d (clauseTokens s c)
+  told y f =
+      ap (λ (x : Machined). byResult c d (goOn 960 fewTokens s (resultOf x st ns))) (sym f)
+      ∙ ap (λ x. byResult c d (goOn 960 fewTokens s x)) e
+      ∙ ap (byResult c d) (sym (in-two fewTokens 960 mostTokens 0 fewTokens 0 start s c refl refl))
+      ∙ same-outcome s c d
 
   stopped : (w : Fault) → r ≡ Machined.Stopped w → leaves (ClauseAnswer.Refused w c) d ≡ byTokens s c d (clauseTokens s c)
   unfolding resultOf byResult goOn
-  stopped w f = ap (λ (x : Machined). byResult s c d (goOn 960 fewTokens s (resultOf x st ns))) (sym f) ∙ told
+  stopped w f = told (Machined.Stopped w) f
 
-  module _ (m : Mode) (n : Cursor) where
-    module _ (f : r ≡ Machined.Paused m n) where
-      longer : valid (length s) c ≡ true → length st ≡ 65 → length ns ≡ 65 → Longer s c m n st ns
+  module _ (o : ℕ) (m : Mode) (n : Cursor) where
+    module _ (f : r ≡ Machined.Paused o m n) where
+      longer : valid (length s) c ≡ true → length st ≡ 65 → length ns ≡ 65 → Longer s m n st ns
       unfolding resultOf weight sizes size
       longer v g h =
           let p = sym e ∙ ap (λ (x : Machined). resultOf x st ns) f in
-          let w = paused-light fewTokens 0 start (stateOf m st ns) s c n p in
-          record { valid-cursor = v; valid-next = paused-valid fewTokens 0 start (stateOf m st ns) s c n v p; frames = g; nodes = h; words = omega arith }
+          let w = paused-light fewTokens 0 0 o start (stateOf m st ns) s c n p in
+          record { valid-next = paused-valid fewTokens 0 0 o start (stateOf m st ns) s c n v p; frames = g; nodes = h; words = omega arith }
 
-      went-on : (a : ClauseAnswer) (d′ : List ℕ) → leaves a d′ ≡ byResult s c d (clauseRun (mostTokens - fewTokens) fewTokens (stateOf m st ns) s n) → leaves a d′ ≡ byTokens s c d (clauseTokens s c)
+      went-on : (a : ClauseAnswer) (d′ : List ℕ) → leaves a d′ ≡ byResult c d (clauseRun (mostTokens - fewTokens) fewTokens o (stateOf m st ns) s n) → leaves a d′ ≡ byTokens s c d (clauseTokens s c)
       unfolding resultOf goOn
-      went-on a d′ g = g ∙ ap (λ (x : Machined). byResult s c d (goOn 960 fewTokens s (resultOf x st ns))) (sym f) ∙ told
+      went-on a d′ g = g ∙ told (Machined.Paused o m n) f
 
-    module _ (f : r ≡ Machined.Whole m n) where
-      finishing : valid (length s) c ≡ true → length ns ≡ 65 → Finishing s c m st ns
+    module _ (f : r ≡ Machined.Whole o m n) where
+      finishing : length ns ≡ 65 → Finishing m st ns
       unfolding resultOf weight sizes size
-      finishing v g =
-          let w = finished-light fewTokens 0 start (stateOf m st ns) s c n (sym e ∙ ap (λ (x : Machined). resultOf x st ns) f) in
-          record { valid-cursor = v; words = omega arith; weight-left = omega arith }
+      finishing g =
+          let w = finished-light fewTokens 0 0 o start (stateOf m st ns) s c n (sym e ∙ ap (λ (x : Machined). resultOf x st ns) f) in
+          record { words = omega arith; weight-left = omega arith }
 
-      accepted : (a : ClauseAnswer) (d′ : List ℕ) → leaves a d′ ≡ byNodes s c d n (nodesOf (stateOf m st ns)) → leaves a d′ ≡ byTokens s c d (clauseTokens s c)
+      accepted : (a : ClauseAnswer) (d′ : List ℕ) → leaves a d′ ≡ byNodes o c d n (nodesOf (stateOf m st ns)) → leaves a d′ ≡ byTokens s c d (clauseTokens s c)
       unfolding resultOf byResult goOn
-      accepted a d′ g = g ∙ ap (λ (x : Machined). byResult s c d (goOn 960 fewTokens s (resultOf x st ns))) (sym f) ∙ told
+      accepted a d′ g = g ∙ told (Machined.Whole o m n) f
 
 ruleset ways = (beginning, stopped, longer, went-on, finishing, accepted, needs)
 
@@ -73,8 +77,8 @@ first-tokens-requires c κs = search ways
 enum-known-fault : tie.Need-enum-known-fault
 enum-known-fault c = search ways
 
-enum-known-mode : tie.Need-enum-known-mode
-enum-known-mode c = search ways
+enum-known-first : tie.Need-enum-known-first
+enum-known-first c = search ways
 
 slice-aggregate-long-clause : tie.Need-slice-aggregate-long-clause
 slice-aggregate-long-clause c = search ways
@@ -85,8 +89,8 @@ slice-aggregate-long-clause-2 c = search ways
 long-clause-requires : tie.Need-long-clause-requires
 long-clause-requires c κs = search ways
 
-enum-known-mode-2 : tie.Need-enum-known-mode-2
-enum-known-mode-2 c = search ways
+enum-known-first-2 : tie.Need-enum-known-first-2
+enum-known-first-2 c = search ways
 
 slice-aggregate-finish-clause : tie.Need-slice-aggregate-finish-clause
 slice-aggregate-finish-clause c = search ways
@@ -120,11 +124,11 @@ clause-at-spec =
     slice-aggregate-first-tokens-2
     first-tokens-requires
     enum-known-fault
-    enum-known-mode
+    enum-known-first
     slice-aggregate-long-clause
     slice-aggregate-long-clause-2
     long-clause-requires
-    enum-known-mode-2
+    enum-known-first-2
     slice-aggregate-finish-clause
     slice-aggregate-finish-clause-2
     finish-clause-requires

@@ -1,19 +1,16 @@
 -- `reader::clause::finish_clause` meets its contract. Assumes nothing.
 use Prim.Native.Nat.{ℕ, _≤_}
 use mathlib.Core.Path.{_≡_, ap, _∙_, sym}
-use mathlib.Core.Bool.{true}
 use mathlib.Core.Option.{some}
 use mathlib.Core.List.{List}
 use native.Mathlib.Omega.{arith}
 use borrow.Author.Needs.{needs}
 use lib.ListN.{length}
-use Rattle.lexer.specs.Cursor.{valid}
 use Rattle.lexer.specs.Refusal.{fault}
 use Rattle.lexer.specs.declared.cursor.Cursor.{Cursor}
 use Rattle.lexer.specs.declared.refusal.Refusal.the-variants.{NoReading}
 use Rattle.reader.specs.Weight.{weight}
 use Rattle.reader.specs.Layout.{outOf, stateOf}
-use Rattle.reader.specs.Clause.{firstOffset}
 use Rattle.reader.specs.Gather.{leaves, nodesOf, byNodes, Finished, Finishing}
 use Rattle.reader.specs.declared.machine.Spot.{Spot}
 use Rattle.reader.specs.declared.machine.Pending.{Pending}
@@ -24,36 +21,36 @@ use Rattle.reader.proofs.Turns.{length-out}
 use Rattle.reader.proofs.clause.finish_clause.Statement.{statement}
 use Rattle.reader.proofs.clause.finish_clause.Tie as tie
 
-module _ (s : List ℕ) (c : Cursor) (m : Mode) (e : Cursor) (st ns d : List ℕ) where
-  module _ (n : ℕ) (f : m ≡ Mode.Done n) where
-    finished : Finishing s c m st ns → Finished s c n ns
-    unfolding weight stateOf
-    finished w =
-        let g : weight (stateOf (Mode.Done n) st ns) ≤ length ns = rw f at (w .weight-left) in
-        record { valid-cursor = w .valid-cursor; nodes = omega (arith, length-out ns n); words = w .words }
+finished : (m : Mode) (st ns : List ℕ) (n : ℕ) → m ≡ Mode.Done n → Finishing m st ns → Finished n ns
+unfolding weight stateOf
+finished m st ns n f w =
+    let g : weight (stateOf (Mode.Done n) st ns) ≤ length ns = rw f at (w .weight-left) in
+    record { nodes = omega (arith, length-out ns n); words = w .words }
 
-    accepted : (r : ClauseAnswer) (d′ : List ℕ) → leaves r d′ ≡ byNodes s c d e (some (outOf ns n)) → leaves r d′ ≡ byNodes s c d e (nodesOf (stateOf m st ns))
-    unfolding nodesOf stateOf
-    accepted r d′ g = g ∙ sym (ap (λ (x : Mode). byNodes s c d e (nodesOf (stateOf x st ns))) f)
+-- by the mode, where o is the offset of the first token
+module _ (o : ℕ) (c : Cursor) (m : Mode) (e : Cursor) (st ns d : List ℕ) where
+  accepted : (n : ℕ) → m ≡ Mode.Done n → (r : ClauseAnswer) (d′ : List ℕ) → leaves r d′ ≡ byNodes o c d e (some (outOf ns n)) → leaves r d′ ≡ byNodes o c d e (nodesOf (stateOf m st ns))
+  unfolding nodesOf stateOf
+  accepted n f r d′ g = g ∙ sym (ap (λ (x : Mode). byNodes o c d e (nodesOf (stateOf x st ns))) f)
 
-  module _ (r : ClauseAnswer) (g : r ≡ ClauseAnswer.Refused (fault NoReading (firstOffset s c)) c) where
-    wants : (p : Spot) → m ≡ Mode.Want p → leaves r d ≡ byNodes s c d e (nodesOf (stateOf m st ns))
+  module _ (r : ClauseAnswer) (g : r ≡ ClauseAnswer.Refused (fault NoReading o) c) where
+    wants : (p : Spot) → m ≡ Mode.Want p → leaves r d ≡ byNodes o c d e (nodesOf (stateOf m st ns))
     unfolding nodesOf stateOf byNodes
     wants p f = cc
 
-    pends : (p : Spot) (q : Pending) → m ≡ Mode.Pend p q → leaves r d ≡ byNodes s c d e (nodesOf (stateOf m st ns))
+    pends : (p : Spot) (q : Pending) → m ≡ Mode.Pend p q → leaves r d ≡ byNodes o c d e (nodesOf (stateOf m st ns))
     unfolding nodesOf stateOf byNodes
     pends p q f = cc
 
-    begins : (p : Spot) (h : Shape) (i : ℕ) → m ≡ Mode.Begun p h i → leaves r d ≡ byNodes s c d e (nodesOf (stateOf m st ns))
+    begins : (p : Spot) (h : Shape) (i : ℕ) → m ≡ Mode.Begun p h i → leaves r d ≡ byNodes o c d e (nodesOf (stateOf m st ns))
     unfolding nodesOf stateOf byNodes
     begins p h i f = cc
 
-    has : (p : Spot) → m ≡ Mode.Have p → leaves r d ≡ byNodes s c d e (nodesOf (stateOf m st ns))
+    has : (p : Spot) → m ≡ Mode.Have p → leaves r d ≡ byNodes o c d e (nodesOf (stateOf m st ns))
     unfolding nodesOf stateOf byNodes
     has p f = cc
 
-    died : m ≡ Mode.Dead → leaves r d ≡ byNodes s c d e (nodesOf (stateOf m st ns))
+    died : m ≡ Mode.Dead → leaves r d ≡ byNodes o c d e (nodesOf (stateOf m st ns))
     unfolding nodesOf stateOf byNodes
     died f = cc
 

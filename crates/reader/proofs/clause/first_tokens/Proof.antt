@@ -30,8 +30,8 @@ module _ (s : List ℕ) (c : Cursor) (m : Mode) (st ns : List ℕ) (e : stateOf 
         words = rw e (omega arith);
       }
 
-  ran : (r : Result) → r ≡ clauseRun fewTokens 0 (stateOf m st ns) s c → r ≡ clauseRun fewTokens 0 start s c
-  ran r f = f ∙ ap (λ (z : State). clauseRun fewTokens 0 z s c) e
+  ran : (r : Result) → r ≡ clauseRun fewTokens 0 0 (stateOf m st ns) s c → r ≡ clauseRun fewTokens 0 0 start s c
+  ran r f = f ∙ ap (λ (z : State). clauseRun fewTokens 0 0 z s c) e
 
 ruleset ways = (room, taking, ran, needs)
 

@@ -38,8 +38,8 @@ module _ (s : List ℕ) (c : Cursor) (m : Mode) (st ns fs os : List ℕ) (w : Go
           words = rw same (w .longer .words);
         }
 
-    ran : (r : Result) → r ≡ clauseRun (mostTokens - fewTokens) fewTokens (stateOf m fs′ os′) s c → r ≡ clauseRun (mostTokens - fewTokens) fewTokens (stateOf m st ns) s c
-    ran r e = e ∙ ap (λ (z : State). clauseRun (mostTokens - fewTokens) fewTokens z s c) same
+    ran : (o : ℕ) (r : Result) → r ≡ clauseRun (mostTokens - fewTokens) fewTokens o (stateOf m fs′ os′) s c → r ≡ clauseRun (mostTokens - fewTokens) fewTokens o (stateOf m st ns) s c
+    ran o r e = e ∙ ap (λ (z : State). clauseRun (mostTokens - fewTokens) fewTokens o z s c) same
 
 ruleset ways = (frames-fit, nodes-fit, taking, ran, needs)
 

@@ -3,9 +3,11 @@
 use Prim.Native.Nat.{ℕ, suc, _+_, _-_, _<_, _≤_}
 use mathlib.Core.Path.{_≡_, refl, sym, _∙_, ap}
 use mathlib.Core.Bool.{Bool, true, false}
+use mathlib.Core.Logic.{⊎-elim}
 use mathlib.Core.List.{List}
 use native.Mathlib.Omega.{arith}
 use borrow.Author.Needs.{needs}
+use borrow.Author.Tests.{ne-eqb}
 use lib.ListN.{length}
 use Rattle.lexer.specs.Token.{nextToken}
 use Rattle.lexer.specs.declared.cursor.Cursor.{Cursor}
@@ -14,10 +16,9 @@ use Rattle.lexer.specs.declared.token.Token as lexer
 use Rattle.lexer.specs.declared.token.Answer.{Answer}
 use Rattle.reader.specs.Tree.{packed}
 use Rattle.reader.specs.Machine as M
-use Rattle.reader.specs.Machine.{State}
 use Rattle.reader.specs.Layout.{stateOf, sightOf, Ready}
 use Rattle.reader.specs.Clause.{isEnd}
-use Rattle.reader.specs.Gather.{sightFrom, ReadFrom, finished, clauseRun, resultOf, Taking}
+use Rattle.reader.specs.Gather.{sightFrom, ReadFrom, began, clauseRun, resultOf, Taking}
 use Rattle.reader.specs.declared.machine.Mode.{Mode}
 use Rattle.reader.specs.declared.machine.Sight.{Sight}
 use Rattle.reader.specs.declared.clause.Machined.{Machined}
@@ -27,27 +28,34 @@ use Rattle.reader.proofs.Turns.{told-refused, next-valid, ready, takes-
 use Rattle.reader.proofs.clause.take_tokens.Statement.{statement}
 use Rattle.reader.proofs.clause.take_tokens.Tie as tie
 
-record Inv (s : List ℕ) (c₀ : Cursor) (from to : ℕ) (m₀ : Mode) (st₀ ns₀ : List ℕ) (c : Cursor) (i : ℕ) (m : Mode) (st ns : List ℕ) : Type 0 where
-  same : clauseRun (to - from) from (stateOf m₀ st₀ ns₀) s c₀ ≡ clauseRun (to - i) i (stateOf m st ns) s c
+record Inv (s : List ℕ) (c₀ : Cursor) (from to f₀ : ℕ) (m₀ : Mode) (st₀ ns₀ : List ℕ) (c : Cursor) (i f : ℕ) (m : Mode) (st ns : List ℕ) : Type 0 where
+  same : clauseRun (to - from) from f₀ (stateOf m₀ st₀ ns₀) s c₀ ≡ clauseRun (to - i) i f (stateOf m st ns) s c
   taking : Taking s c i to m st ns
   frames : length st ≡ length st₀
   nodes : length ns ≡ length ns₀
 
-started : (s : List ℕ) (c : Cursor) (from to : ℕ) (m : Mode) (st ns : List ℕ) → Taking s c from to m st ns → Inv s c from to m st ns c from m st ns
-started s c from to m st ns w = record { same = refl; taking = w; frames = refl; nodes = refl }
+started : (s : List ℕ) (c : Cursor) (from to f : ℕ) (m : Mode) (st ns : List ℕ) → Taking s c from to m st ns → Inv s c from to f m st ns c from f m st ns
+started s c from to f m st ns w = record { same = refl; taking = w; frames = refl; nodes = refl }
+
+-- the first token's offset behind a token: set at index 0, else as it was
+set-there : {i g : ℕ} (f : ℕ) (t : lexer.Token) → i ≡ 0 → g ≡ t .start → g ≡ began i f t
+set-there f t h e = cc
+
+left-alone : {i f g : ℕ} (t : lexer.Token) → (i ≡ 0 → ⊥) → g ≡ f → g ≡ began i f t
+left-alone {i} t h e = cc (ne-eqb i 0 h)
 
 -- the ways out of the loop and of a turn, over plain values: a is what the token call answered
-module _ (s : List ℕ) (c₀ : Cursor) (from to : ℕ) (m₀ : Mode) (st₀ ns₀ : List ℕ) (c : Cursor) (i : ℕ) (m : Mode) (st ns : List ℕ) (v : Inv s c₀ from to m₀ st₀ ns₀ c i m st ns) where
-  pauses : to ≤ i → resultOf (Machined.Paused m c) st ns ≡ clauseRun (to - from) from (stateOf m₀ st₀ ns₀) s c₀
+module _ (s : List ℕ) (c₀ : Cursor) (from to f₀ : ℕ) (m₀ : Mode) (st₀ ns₀ : List ℕ) (c : Cursor) (i f : ℕ) (m : Mode) (st ns : List ℕ) (v : Inv s c₀ from to f₀ m₀ st₀ ns₀ c i f m st ns) where
+  pauses : to ≤ i → resultOf (Machined.Paused f m c) st ns ≡ clauseRun (to - from) from f₀ (stateOf m₀ st₀ ns₀) s c₀
   unfolding resultOf clauseRun
   pauses h =
       let n : to - i ≡ 0 = omega arith in
-      sym (v .same ∙ ap (λ (k : ℕ). clauseRun k i (stateOf m st ns) s c) n)
+      sym (v .same ∙ ap (λ (k : ℕ). clauseRun k i f (stateOf m st ns) s c) n)
 
   module _ (h : i < to) where
     -- from here: the token, and what follows it
-    from-here : clauseRun (to - from) from (stateOf m₀ st₀ ns₀) s c₀ ≡ clauseRun (suc (to - (i + 1))) i (stateOf m st ns) s c
-    from-here = let n : to - i ≡ suc (to - (i + 1)) = omega arith in v .same ∙ ap (λ (k : ℕ). clauseRun k i (stateOf m st ns) s c) n
+    from-here : clauseRun (to - from) from f₀ (stateOf m₀ st₀ ns₀) s c₀ ≡ clauseRun (suc (to - (i + 1))) i f (stateOf m st ns) s c
+    from-here = let n : to - i ≡ suc (to - (i + 1)) = omega arith in v .same ∙ ap (λ (k : ℕ). clauseRun k i f (stateOf m st ns) s c) n
 
     less : to - (i + 1) < to - i
     less = omega arith
@@ -58,40 +66,40 @@ module _ (s : List ℕ) (c₀ : Cursor) (from to : ℕ) (m₀ : Mode) (st₀ ns�
     room : (k : Sight) → Ready m k st ns
     room k =
         let w = v .taking .words in
-        let f = v .taking .few in
+        let u = v .taking .few in
         let o = takes-one k in
         ready st ns (to + 1) (omega (arith, v .taking .frames)) (omega (arith, v .taking .nodes)) (omega arith) m k o (omega arith) (omega arith)
 
     module _ (a : Answer) (e : a ≡ nextToken s c) where
-      stops : (f : Fault) (k : Cursor) → a ≡ Answer.Refused f k → resultOf (Machined.Stopped f) st ns ≡ clauseRun (to - from) from (stateOf m₀ st₀ ns₀) s c₀
+      stops : (x : Fault) (k : Cursor) → a ≡ Answer.Refused x k → resultOf (Machined.Stopped x) st ns ≡ clauseRun (to - from) from f₀ (stateOf m₀ st₀ ns₀) s c₀
       unfolding resultOf
-      stops f k g =
-          let r = told-refused s c (v .taking .valid-cursor) f k (sym e ∙ g) in
-          sym (from-here ∙ run-stop s c (to - (i + 1)) i (stateOf m st ns) f r)
+      stops x k g =
+          let r = told-refused s c (v .taking .valid-cursor) x k (sym e ∙ g) in
+          sym (from-here ∙ run-stop s c (to - (i + 1)) i f (stateOf m st ns) x r)
 
       module _ (t : lexer.Token) (d : Cursor) (g : a ≡ Answer.Read t d) where
         read-there : ReadFrom s c t d
         read-there = record { reads = sym e ∙ g }
 
-        module _ (k : Sight) (q : sightOf k ≡ sightFrom s c) (r : Mode) (st′ ns′ : List ℕ) (y : stateOf r st′ ns′ ≡ M.step packed (stateOf m st ns) i (sightOf k)) (b : Bool) (f : b ≡ isEnd (t .kind)) where
+        module _ (k : Sight) (q : sightOf k ≡ sightFrom s c) (r : Mode) (st′ ns′ : List ℕ) (y : stateOf r st′ ns′ ≡ M.step packed (stateOf m st ns) i (sightOf k)) (b : Bool) (j : b ≡ isEnd (t .kind)) (f′ : ℕ) (o : f′ ≡ began i f t) where
           -- the machine behind the token
           behind : stateOf r st′ ns′ ≡ M.step packed (stateOf m st ns) i (sightFrom s c)
           behind = y ∙ ap (M.step packed (stateOf m st ns) i) q
 
-          ends : b ≡ true → resultOf (Machined.Whole r d) st′ ns′ ≡ clauseRun (to - from) from (stateOf m₀ st₀ ns₀) s c₀
+          ends : b ≡ true → resultOf (Machined.Whole f′ r d) st′ ns′ ≡ clauseRun (to - from) from f₀ (stateOf m₀ st₀ ns₀) s c₀
           unfolding resultOf
           ends l =
               let p = known s c t d (sym e ∙ g) in
-              ap (λ (z : State). finished z d) behind ∙ sym (from-here ∙ run-last s c (to - (i + 1)) i (stateOf m st ns) t d p (sym f ∙ l))
+              rw (o, behind) (sym (from-here ∙ run-last s c (to - (i + 1)) i f (stateOf m st ns) t d p (sym j ∙ l)))
 
-          again : b ≡ false → length st′ ≡ length st → length ns′ ≡ length ns → Inv s c₀ from to m₀ st₀ ns₀ d (i + 1) r st′ ns′
+          again : b ≡ false → length st′ ≡ length st → length ns′ ≡ length ns → Inv s c₀ from to f₀ m₀ st₀ ns₀ d (i + 1) f′ r st′ ns′
           again l x u =
               let p = known s c t d (sym e ∙ g) in
               let w = rw (← behind) at (step-size packed (stateOf m st ns) i (sightFrom s c)) in
               record {
                 same =
-                    from-here ∙ run-more s c (to - (i + 1)) i (stateOf m st ns) t d p (sym f ∙ l)
-                    ∙ ap (λ (z : State). clauseRun (to - (i + 1)) (i + 1) z s d) (sym behind);
+                    from-here ∙ run-more s c (to - (i + 1)) i f (stateOf m st ns) t d p (sym j ∙ l)
+                    ∙ rw (o, behind) refl;
                 taking =
                     record {
                       valid-cursor = next-valid s c (v .taking .valid-cursor) t d (d .offset) (p .text) (p .reads) (p .next);
@@ -105,13 +113,19 @@ module _ (s : List ℕ) (c₀ : Cursor) (from to : ℕ) (m₀ : Mode) (st₀ ns�
                 nodes = u ∙ v .nodes;
               }
 
-ruleset ways = (started, pauses, less, next-fits, room, stops, read-there, ends, again, needs)
-
 abbrev Inv-loop : tie.InvT-loop
-Inv-loop text from to frames₀ nodes₀ mode₀ c₀ index₀ frames nodes mode c index = Inv text c₀ from to mode₀ frames₀ nodes₀ c index mode frames nodes
+Inv-loop text from to began frames₀ nodes₀ mode₀ c₀ index₀ first₀ frames nodes mode c index first = Inv text c₀ from to began mode₀ frames₀ nodes₀ c index first mode frames nodes
 
 abbrev μ-loop : tie.MeasureT-loop
-μ-loop text from to frames₀ nodes₀ mode₀ c₀ index₀ frames nodes mode c index = to - index
+μ-loop text from to began frames₀ nodes₀ mode₀ c₀ index₀ first₀ frames nodes mode c index first = to - index
+
+-- so where the arms of that branch meet
+joined : (c : tie.Joined1 Inv-loop μ-loop) → let v = c .before .before .before .before .before .before .loop in c .if1 .first ≡ began (v .index) (v .first) (c .before .before .token .given .0 .0)
+joined c =
+    let t = c .before .before .token .given .0 .0 in
+    ⊎-elim (λ w. set-there _ t (w .0 .taken) (w .1)) (λ w. left-alone t (w .0 .left) (w .1)) (c .if1 .came)
+
+ruleset ways = (started, pauses, less, next-fits, room, stops, read-there, joined, ends, again, needs)
 
 -- answers
 loop-holds : tie.Need-loop-holds Inv-loop μ-loop

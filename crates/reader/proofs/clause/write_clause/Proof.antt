@@ -13,31 +13,30 @@ use Rattle.lexer.specs.declared.cursor.Cursor.{Cursor}
 use Rattle.lexer.specs.declared.refusal.Refusal.the-variants.{NoRoom}
 use Rattle.reader.specs.Machine.{laid}
 use Rattle.reader.specs.Layout.{outOf, Copies}
-use Rattle.reader.specs.Clause.{firstOffset}
 use Rattle.reader.specs.Gather.{leaves, byNodes, Finished}
 use Rattle.reader.specs.declared.clause.ClauseAnswer.{ClauseAnswer}
 use Rattle.reader.proofs.Turns.{length-out}
 use Rattle.reader.proofs.clause.write_clause.Statement.{statement}
 use Rattle.reader.proofs.clause.write_clause.Tie as tie
 
-module _ (s : List ℕ) (c : Cursor) (n : ℕ) (ns d : List ℕ) (e : Cursor) where
-  no-room : (r : ClauseAnswer) → length d < 2 * n → r ≡ ClauseAnswer.Refused (fault NoRoom (firstOffset s c)) c → leaves r d ≡ byNodes s c d e (some (outOf ns n))
+module _ (f : ℕ) (c : Cursor) (n : ℕ) (ns d : List ℕ) (e : Cursor) where
+  no-room : (r : ClauseAnswer) → length d < 2 * n → r ≡ ClauseAnswer.Refused (fault NoRoom f) c → leaves r d ≡ byNodes f c d e (some (outOf ns n))
   unfolding byNodes
-  no-room r h f =
+  no-room r h g =
       let m = length-out ns n in
       cc (lt-leb (2 * length (outOf ns n)) (length d) (omega arith))
 
-  copies : Finished s c n ns → 2 * n ≤ length d → Copies ns d n
-  copies w h = record { words = w .nodes; room = h }
-
-  written : (d′ : List ℕ) → 2 * n ≤ length d → d′ ≡ sets d 0 (laid (outOf ns n)) → leaves (ClauseAnswer.Read n e) d′ ≡ byNodes s c d e (some (outOf ns n))
+  written : (d′ : List ℕ) → 2 * n ≤ length d → d′ ≡ sets d 0 (laid (outOf ns n)) → leaves (ClauseAnswer.Read n e) d′ ≡ byNodes f c d e (some (outOf ns n))
   unfolding byNodes
-  written d′ h f =
+  written d′ h g =
       let m = length-out ns n in
       cc (le-leb (2 * length (outOf ns n)) (length d) (omega arith))
 
-twice-fits : (s : List ℕ) (c : Cursor) (n : ℕ) (ns : List ℕ) → Finished s c n ns → n ≤ 1025
-twice-fits s c n ns w = omega (arith, w .nodes, w .words)
+copies : (n : ℕ) (ns d : List ℕ) → Finished n ns → 2 * n ≤ length d → Copies ns d n
+copies n ns d w h = record { words = w .nodes; room = h }
+
+twice-fits : (n : ℕ) (ns : List ℕ) → Finished n ns → n ≤ 1025
+twice-fits n ns w = omega (arith, w .nodes, w .words)
 
 ruleset ways = (no-room, copies, written, twice-fits, needs)
 
