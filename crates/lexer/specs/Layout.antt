@@ -94,6 +94,7 @@ unfoldable pub stepped : List ℕ → Cursor → Scan → Layout
 stepped s c (Stop e) = cond (eqb e (c .offset)) Layout.Absent (Layout.To (moveTo s c e))
 stepped s c (Refused w) = Layout.Refused w
 
+-- the same of a comment, which ends behind where it starts
 abbrev pub layoutTo : Moved → Layout
 layoutTo (Moved.To c) = Layout.To c
 layoutTo (Moved.Refused w) = Layout.Refused w

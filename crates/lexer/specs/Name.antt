@@ -60,8 +60,9 @@ symbolName s at x = cond (is graphicTokenChar x) (graphicToken s at) (soloName a
 unfoldable pub nameToken : List ℕ → ℕ → ℕ → Plain
 nameToken s at x = cond (is smallLetter x) (runToken Name (alphanumerics s (at + 1))) (symbolName s at x)
 
--- ---- the code's order: names and variables together, by their first character x, a letter or an underscore
+-- ---- what the code keeps: names and variables together, by their first character x, a letter or an underscore
 
+-- 6.4.2, 6.4.3: a small letter begins a name, another a variable
 abbrev pub wordKind : ℕ → Kind
 wordKind x = cond (is smallLetter x) Name Variable
 
@@ -69,5 +70,6 @@ wordKind x = cond (is smallLetter x) Name Variable
 abbrev pub wordTaken : Bool → ℕ → Bool
 wordTaken field x = cond field (is smallLetter x) true
 
+-- the word at `at`
 abbrev pub wordToken : Bool → List ℕ → ℕ → ℕ → Plain
 wordToken field s at x = cond (wordTaken field x) (runToken (wordKind x) (alphanumerics s (at + 1))) (Plain.Refused (fault NoToken at))

@@ -15,5 +15,6 @@ unfoldable pub stretchTo : ℕ → ℕ → ℕ → ℕ → ℕ → List ℕ → 
 stretchTo a b p q at [] = at
 stretchTo a b p q at (x ∷ xs) = cond (inStretch a b p q x) (stretchTo a b p q (at + 1) xs) at
 
+-- the same from an offset of a text
 abbrev pub stretchEnd : ℕ → ℕ → ℕ → ℕ → List ℕ → ℕ → ℕ
 stretchEnd a b p q s at = stretchTo a b p q at (drop at s)

@@ -202,6 +202,7 @@ kept source = Spelling.Source
 kept (decoded bs) = Spelling.Decoded (length bs)
 kept none = Spelling.Absent
 
+-- with the cursor by its fields, as the code holds it
 abbrev pub spelledTo : Token → Spelling → Cursor → Found
 spelledTo t p c = Found.Whole (c .offset) t (c .line) p (c .column)
 
