@@ -49,7 +49,7 @@ unfoldable pub countedText : List ℕ → Quoted → Counted
 countedText d (Quoted.refused w) = counts 0 d
 countedText d (Quoted.whole bs e) = cond (leb (length bs) (length d)) (counts (length bs) (sets d 0 bs)) (counts 0 d)
 
--- the quoted token at an offset of a text that is not too long, by itself
+-- the quoted token at an offset of a text that is not too long, by itself; the byte there is taken for its quote
 abbrev pub quotedText : List ℕ → ℕ → List ℕ → Counted
 quotedText s at d = cond (ltb at (length s) && leb (length s) longest) (countedText d (decode (getD s at 0) at s (at + 1))) (counts 0 d)
 

@@ -138,8 +138,8 @@ pub fn next_token_text(text: &[u8], cursor: Cursor, scratch: &mut [u8]) -> TextA
     }
 }
 
-// The bytes that the quoted token at `start` stands for are decoded to the front of the scratch, and counted. Where there is no such token, or not room
-// for its bytes, the scratch stays and the count is 0. For a caller who has read the token: it is not read again.
+// The bytes that the quoted token at `start` stands for are decoded to the front of the scratch, and counted. Where none ends, or there is not room
+// for its bytes, the scratch stays and the count is 0. For a caller who has read the token: whatever byte stands at `start` is taken for its quote.
 pub fn quoted_text(text: &[u8], start: usize, scratch: &mut [u8]) -> usize
     ensures { λ r. ⌜ counts r (now (scratch .exit)) ≡ quotedText (now (text .entry)) start (now (scratch .entry)) ⌝ }
 {
