@@ -97,7 +97,7 @@ pub fn put_fault(fault: Fault, fields: &mut [u64]) -> u32
 }
 
 // The cursor behind what was read.
-pub fn put_cursor(next: Cursor, fields: &mut [u64])
+fn put_cursor(next: Cursor, fields: &mut [u64])
     requires { ⌜ Room 5 (now fields) ⌝ }
     ensures { λ _. ⌜ now (fields .exit) ≡ sets (now (fields .entry)) 0 (cursorFields next) ⌝ }
 {
