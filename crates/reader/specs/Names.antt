@@ -7,10 +7,8 @@ use mathlib.Core.List.{List, [], _∷_}
 use lib.Dec.{eqb, ltb}
 use lib.ListN.{length, getD}
 use Rattle.reader.specs.Token.{sameText}
-use Rattle.reader.specs.Ops.{fx, fy, xfx, xfy, yfx, Entry, prefixOp, infixOp, operators, prefixOf, infixOf}
+use Rattle.reader.specs.Ops.{fx, fy, Inf, xfx, xfy, yfx, Entry, prefixOp, infixOp, operators, prefixOf, infixOf}
 use Rattle.reader.specs.Roles.{prefixRole, infixRole}
-use Rattle.reader.specs.declared.operators.OperatorKind.{OperatorKind}
-use Rattle.reader.specs.declared.operators.OperatorKind.the-variants.{Xfx, Xfy, Yfx, Fy, Fx}
 use Rattle.reader.specs.declared.operators.Operator.{Operator}
 use Rattle.reader.specs.declared.ops.ShortName.{ShortName}
 use Rattle.reader.specs.declared.roles.Prefix.{Prefix}
@@ -33,13 +31,28 @@ trimmed a b c = cond (eqb c space) (cond (eqb b space) (a ∷ []) (a ∷ b ∷ [
 abbrev pub spelt : ShortName → List ℕ
 spelt n = trimmed (n .first) (n .second) (n .third)
 
--- the entry that the code's table has at a place, and the one that 01's has there
-unfoldable pub entryAs : OperatorKind → List ℕ → ℕ → Entry
-entryAs Xfx x p = infixOp x (xfx p)
-entryAs Xfy x p = infixOp x (xfy p)
-entryAs Yfx x p = infixOp x (yfx p)
-entryAs Fy x p = prefixOp x (fy p)
-entryAs Fx x p = prefixOp x (fx p)
+-- the numbers of the kinds in the code's table
+abbrev pub kindXfx : ℕ
+kindXfx = 0
+
+abbrev pub kindXfy : ℕ
+kindXfy = 1
+
+abbrev pub kindYfx : ℕ
+kindYfx = 2
+
+abbrev pub kindFy : ℕ
+kindFy = 3
+
+abbrev pub kindFx : ℕ
+kindFx = 4
+
+-- what the numbers of the kinds stand for; the entry that the code's table has at a place, and the one that 01's has there
+unfoldable pub infixAs : ℕ → ℕ → Inf
+infixAs k p = cond (eqb k kindXfx) (xfx p) (cond (eqb k kindXfy) (xfy p) (yfx p))
+
+unfoldable pub entryAs : ℕ → List ℕ → ℕ → Entry
+entryAs k x p = cond (eqb k kindFx) (prefixOp x (fx p)) (cond (eqb k kindFy) (prefixOp x (fy p)) (infixOp x (infixAs k p)))
 
 abbrev pub entryOf : Operator → Entry
 entryOf o = entryAs (o .3) (trimmed (o .0) (o .1) (o .2)) (o .4)

@@ -1,6 +1,9 @@
 // The roles of a name, by the table of operators. A name is looked for at one place of the table for each role: its bytes say which.
+use crate::operators::FX;
+use crate::operators::FY;
 use crate::operators::Operator;
-use crate::operators::OperatorKind;
+use crate::operators::XFX;
+use crate::operators::XFY;
 use crate::operators::entry;
 use crate::roles::Infix;
 use crate::roles::NO_ROLES;
@@ -170,11 +173,9 @@ fn prefix_at(place: usize, name: ShortName) -> Prefix
         return Prefix::Absent;
     }
     match kind {
-        OperatorKind::Fx => Prefix::Fx(priority),
-        OperatorKind::Fy => Prefix::Fy(priority),
-        OperatorKind::Xfx => Prefix::Absent,
-        OperatorKind::Xfy => Prefix::Absent,
-        OperatorKind::Yfx => Prefix::Absent,
+        FX => Prefix::Fx(priority),
+        FY => Prefix::Fy(priority),
+        _ => Prefix::Absent,
     }
 }
 
@@ -194,11 +195,11 @@ fn infix_at(place: usize, name: ShortName) -> Infix
         return Infix::Absent;
     }
     match kind {
-        OperatorKind::Xfx => Infix::Xfx(priority),
-        OperatorKind::Xfy => Infix::Xfy(priority),
-        OperatorKind::Yfx => Infix::Yfx(priority),
-        OperatorKind::Fx => Infix::Absent,
-        OperatorKind::Fy => Infix::Absent,
+        FX => Infix::Absent,
+        FY => Infix::Absent,
+        XFX => Infix::Xfx(priority),
+        XFY => Infix::Xfy(priority),
+        _ => Infix::Yfx(priority),
     }
 }
 
