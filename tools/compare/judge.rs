@@ -16,7 +16,7 @@ pub struct Counts {
     pub owed: u64,
     /// calls that are not compared, by what keeps them out of the domain
     pub outside: BTreeMap<&'static str, u64>,
-    /// answers held against the model, in and out of the domain
+    /// answers compared with the model, in and out of the domain
     pub modelled: u64,
     pub different_from_rust: u64,
     pub different_from_model: u64,

@@ -332,7 +332,7 @@ fn compare(options: &Options) -> ExitCode {
     println!("refusals 9 and 12 of tokens that the Rust accepts {}", counts.owed);
     let outside: Vec<String> = counts.outside.iter().map(|(why, n)| format!("{n} {why}")).collect();
     println!("out of domain {}: {}", counts.outside.values().sum::<u64>(), outside.join(", "));
-    println!("answers held against the model {}", if let Source::Model = options.source { 0 } else { counts.modelled });
+    println!("answers compared with the model {}", if let Source::Model = options.source { 0 } else { counts.modelled });
     println!(
         "different {}: {} from the Rust, {} from document 01",
         counts.different(),

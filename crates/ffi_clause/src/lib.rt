@@ -1,5 +1,5 @@
 // The clause call of the C interface. It stands in a crate of its own, and so in an LLVM module of its own, as the token call does in `ffi_token`: the
-// tokenizer is laid into the loop over a clause's tokens.
+// tokenizer is inlined into the loop over a clause's tokens.
 use fields::READ;
 use fields::put_count;
 use fields::put_fault;

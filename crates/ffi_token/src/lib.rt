@@ -1,4 +1,4 @@
-// The token call of the C interface. It stands in a crate of its own, and so in an LLVM module of its own: called from one place, the tokenizer is laid
+// The token call of the C interface. It stands in a crate of its own, and so in an LLVM module of its own: called from one place, the tokenizer is inlined
 // into it, and no answer goes through memory on the way. `ffi` has the other calls.
 use fields::put_answer;
 use lexer::Cursor;
