@@ -1,5 +1,5 @@
 -- What an answer of the text call tells: the token that the token call reads, where its text is, what is left of the scratch. Assumes nothing.
-use mathlib.Core.Path.{_≡_, refl, sym, _∙_}
+use mathlib.Core.Path.{_≡_, refl, sym, _∙_, ap}
 use mathlib.Core.Bool.{Bool, true, false, cond}
 use mathlib.Core.List.{List, [], _++_}
 use Prim.Native.Nat.{ℕ, _+_, _-_, _≤_}
@@ -8,8 +8,9 @@ use borrow.Author.Tests.{leb-true, le-leb}
 use lib.Dec.{leb}
 use lib.ListN.{length, drop}
 use lib.Seq.{sets, length-sets, sets-eq, take-append-seam, drop-append-seam}
+use denote.Ref.{RefT, ptr, now}
 use Rattle.lexer.specs.Cursor.{part, moveTo, valid}
-use Rattle.lexer.specs.Text.{Outcome, leaves, textTold, nextTokenText, fitted, shown}
+use Rattle.lexer.specs.Text.{Outcome, leaves, textTold, nextTokenText, partOf, fitted, shown}
 use Rattle.lexer.specs.Token.{source, decoded, none, Lexeme, lexeme, refused, readLexeme, answered, notValid, nextToken}
 use Rattle.lexer.specs.declared.refusal.Fault.{Fault}
 use Rattle.lexer.specs.declared.cursor.Cursor.{Cursor}
@@ -27,6 +28,17 @@ textBytes s (lexeme t e (decoded bs)) = bs
 textBytes s (lexeme t e none) = []
 textBytes s (refused w) = []
 
+-- and where they lie: its own in the text a, decoded ones at the front of the scratch b
+abbrev pub textPlace : RefT (List ℕ) → RefT (List ℕ) → Lexeme → ℕ × ℕ
+textPlace a b (lexeme t e source) = (ptr a .0, t .start + ptr a .1)
+textPlace a b (lexeme t e (decoded bs)) = ptr b
+textPlace a b (lexeme t e none) = ptr a
+textPlace a b (refused w) = ptr a
+
+-- the show call, lent the text s and the scratch x, hands back just these bytes, at this place
+abbrev pub Shows : List ℕ → List ℕ → Part → Lexeme → Type 0
+Shows s x p l = (a b : RefT (List ℕ)) → now a ≡ s → now b ≡ x → shown a b p ≡ (textPlace a b l, textBytes s l)
+
 -- of the scratch d, left as x, at most the bytes of the part are written
 abbrev pub OnlyPart : List ℕ → List ℕ → Part → Type 0
 OnlyPart d x (Part.Source a e) = x ≡ d
@@ -35,23 +47,29 @@ OnlyPart d x (Part.Scratch a e) = (length x ≡ length d) × ((a ≡ 0) × (drop
 -- the token t at the cursor c, with the cursor behind it, and its text
 pub record Told (s : List ℕ) (c : Cursor) (d : List ℕ) (t : Token) (next : Cursor) (p : Part) (x : List ℕ) : Type 0 where
   pub token : nextToken s c ≡ Answer.Read t next
-  pub text : shown s x p ≡ textBytes s (readLexeme false s (c .offset))
+  pub text : Shows s x p (readLexeme false s (c .offset))
   pub kept : OnlyPart d x p
 
 -- ---- a part of the text, and bytes that were written
-fitted-part : (a e : ℕ) (s : List ℕ) → a ≤ e → e ≤ length s → fitted a e s ≡ part a e s
+fitted-part : (s x : RefT (List ℕ)) (a e : ℕ) → a ≤ e → e ≤ length (now x) → fitted s x a e ≡ partOf x a e
 unfolding fitted
-fitted-part a e s h k = cc (le-leb a e h, le-leb e (length s) k)
+fitted-part s x a e h k = cc (le-leb a e h, le-leb e (length (now x)) k)
+
+source-part : (a : RefT (List ℕ)) (s : List ℕ) (i e : ℕ) → i ≤ e → e ≤ length s → now a ≡ s → fitted a a i e ≡ ((ptr a .0, i + ptr a .1), part i e s)
+source-part a s i e h k q = fitted-part a a i e h (omega (arith, ap length q)) ∙ ap (λ y. ((ptr a .0, i + ptr a .1), part i e y)) q
 
 module _ (d bs : List ℕ) (h : length bs ≤ length d) where
   written : sets d 0 bs ≡ bs ++ drop (length bs) d
   written = let m : 0 + length bs ≡ length bs = omega arith in rw m at (sets-eq bs d 0 (omega arith))
 
-  written-part : fitted 0 (length bs) (sets d 0 bs) ≡ bs
-  written-part =
+  written-part : (a b : RefT (List ℕ)) → now b ≡ sets d 0 bs → fitted a b 0 (length bs) ≡ (ptr b, bs)
+  written-part a b q =
       let m : length bs - 0 ≡ length bs = omega arith in
-      fitted-part 0 (length bs) (sets d 0 bs) (omega arith) (omega (arith, length-sets d 0 bs))
-      ∙ rw (m, written) (take-append-seam bs (drop (length bs) d))
+      let its : part 0 (length bs) (sets d 0 bs) ≡ bs = rw (m, written) (take-append-seam bs (drop (length bs) d)) in
+      let front : 0 + ptr b .1 ≡ ptr b .1 = omega arith in
+      fitted-part a b 0 (length bs) (omega arith) (omega (arith, ap length q, length-sets d 0 bs))
+      ∙ ap (λ o. ((ptr b .0, o), part 0 (length bs) (now b))) front
+      ∙ ap (λ y. (ptr b, y)) (ap (part 0 (length bs)) q ∙ its)
 
   written-only : OnlyPart d (sets d 0 bs) (Part.Scratch 0 (length bs))
   written-only = (length-sets d 0 bs, (refl, rw written (drop-append-seam bs (drop (length bs) d))))
@@ -63,7 +81,7 @@ module _ (s : List ℕ) (c : Cursor) (d : List ℕ) where
 
   record Tells (b : Bool) (l : Lexeme) (t : Token) (next : Cursor) (p : Part) (x : List ℕ) : Type 0 where
     token : cond b (answered s c l) (Answer.Refused notValid c) ≡ Answer.Read t next
-    text : shown s x p ≡ textBytes s l
+    text : Shows s x p l
     kept : OnlyPart d x p
 
   -- a quoted item, where there is room or not
@@ -74,7 +92,7 @@ module _ (s : List ℕ) (c : Cursor) (d : List ℕ) where
       let r = leb-true (length bs) (length d) f in
       let q : Part.Scratch 0 (length bs) ≡ p = cc in
       let y : sets d 0 bs ≡ x = cc in
-      record { token = cc; text = rw (sym q, sym y) (written-part d bs r); kept = rw (sym q, sym y) (written-only d bs r) }
+      record { token = cc; text = λ a b _ g. rw (sym q) (written-part d bs r a b (g ∙ sym y)); kept = rw (sym q, sym y) (written-only d bs r) }
 
   tells : (b : Bool) (l : Lexeme) → valid (length s) c ≡ b → readLexeme false s (c .offset) ≡ l → (t : Token) (next : Cursor) (p : Part) (x : List ℕ) → called b l ≡ leaves (Read t next p) x → Tells b l t next p x
   unfolding called textTold answered shown
@@ -86,7 +104,7 @@ module _ (s : List ℕ) (c : Cursor) (d : List ℕ) where
       let q : Part.Source (u .start) e ≡ p = cc in
       let y : d ≡ x = cc in
       let b = lexeme-ends false s (c .offset) u e source (is-valid (length s) c f .offset) g in
-      record { token = cc; text = rw (sym q) (fitted-part (u .start) e s (omega (arith, b .ahead)) (b .inside)); kept = rw (sym q) (sym y) }
+      record { token = cc; text = λ a _ g _. rw (sym q) (source-part a s (u .start) e (omega (arith, b .ahead)) (b .inside) g); kept = rw (sym q) (sym y) }
 
   pub text-told : (t : Token) (next : Cursor) (p : Part) (x : List ℕ) → nextTokenText s c d ≡ leaves (Read t next p) x → Told s c d t next p x
   unfolding called

@@ -1,18 +1,19 @@
 -- What holds of this crate, in a reader's order: statements, each with the proof that it cites. The calls' contracts, in `src/`, say that each call answers
 -- as its definition in `specs/` does; this page says what the definitions come to. Assumes nothing.
-use mathlib.Core.Path.{_≡_, sym, _∙_}
+use mathlib.Core.Path.{_≡_, sym, _∙_, ap}
 use mathlib.Core.Bool.{Bool, true, false}
 use mathlib.Core.List.{List, [], _∷_, map}
 use Prim.Native.Nat.{ℕ, _+_, _-_, _<_, _≤_}
 use lib.Ieee.{Float}
 use lib.ListN.{length, getD}
+use denote.Ref.{RefT, ptr, now}
 use Rattle.lexer.specs.Chars.{is, foreignByte}
 use Rattle.lexer.specs.Cursor.{longest, startCursor, valid}
 use Rattle.lexer.specs.Float.{Limits, Scale, scale, over, under, floatValue}
 use Rattle.lexer.specs.Layout.{commentText}
 use Rattle.lexer.specs.Nearest.{Nearest}
 use Rattle.lexer.specs.Refusal.{numberOf, fault}
-use Rattle.lexer.specs.Text.{leaves, nextTokenText, shown, counts, quotedText}
+use Rattle.lexer.specs.Text.{leaves, nextTokenText, seen, shown, counts, quotedText}
 use Rattle.lexer.specs.Token.{nextToken, nextNumberToken}
 use Rattle.lexer.specs.declared.refusal.Fault.{Fault}
 use Rattle.lexer.specs.declared.refusal.Refusal.{Refusal}
@@ -53,9 +54,9 @@ module _ (s : List ℕ) (c : Cursor) where
 pub quoted-coincides : (s : List ℕ) (at : ℕ) (d : List ℕ) (m n : ℕ) (x y : List ℕ) → counts m x ≡ quotedText s at d → counts n y ≡ quotedText s at d → (m ≡ n) × (x ≡ y)
 quoted-coincides s at d m n x y p q = let e = coincide (quotedText s at d) (counts m x) (counts n y) p q in (cc, cc)
 
--- the show call
-pub show-coincides : (s d : List ℕ) (p : Part) (a b : List ℕ) → a ≡ shown s d p → b ≡ shown s d p → a ≡ b
-show-coincides s d p = coincide (shown s d p)
+-- the show call: where the part lies, and its bytes
+pub show-coincides : (s d : RefT (List ℕ)) (p : Part) (a b : RefT (List ℕ)) → seen a ≡ shown s d p → seen b ≡ shown s d p → (ptr a ≡ ptr b) × (now a ≡ now b)
+show-coincides s d p a b f g = let e = coincide (shown s d p) (seen a) (seen b) f g in (ap (λ x. x .0) e, ap (λ x. x .1) e)
 
 -- a refusal's number
 pub refusal-coincides : (r : Refusal) (a b : ℕ) → a ≡ numberOf r → b ≡ numberOf r → a ≡ b

@@ -2,10 +2,11 @@
 use Prim.Native.Nat.{ℕ, _+_}
 use mathlib.Core.Path.{_≡_}
 use mathlib.Core.Bool.{false, cond, _&&_}
-use mathlib.Core.List.{List, []}
+use mathlib.Core.List.{List}
 use lib.Dec.{leb, ltb}
 use lib.ListN.{length, getD}
 use lib.Seq.{sets}
+use denote.Ref.{RefT, ptr, now}
 use Rattle.lexer.specs.Cursor.{longest, part, valid, moveTo, Valid}
 use Rattle.lexer.specs.Quoted.{Quoted, decode}
 use Rattle.lexer.specs.Refusal.{fault}
@@ -53,14 +54,26 @@ countedText d (Quoted.whole bs e) = cond (leb (length bs) (length d)) (counts (l
 abbrev pub quotedText : List ℕ → ℕ → List ℕ → Counted
 quotedText s at d = cond (ltb at (length s) && leb (length s) longest) (countedText d (decode (getD s at 0) at s (at + 1))) (counts 0 d)
 
--- the part of a slice from a to e, or the empty part where it does not fit
-unfoldable pub fitted : ℕ → ℕ → List ℕ → List ℕ
-fitted a e s = cond (leb a e && leb e (length s)) (part a e s) []
+-- a slice as its holder sees it: where it lies, block and offset, and its bytes
+abbrev pub Lent : Type 0
+Lent = (ℕ × ℕ) × List ℕ
 
--- 01: the show call hands back a part of the text or of the scratch
-unfoldable pub shown : List ℕ → List ℕ → Part → List ℕ
-shown s d (Part.Source a e) = fitted a e s
-shown s d (Part.Scratch a e) = fitted a e d
+-- the slice that a reference lends
+abbrev pub seen : RefT (List ℕ) → Lent
+seen x = (ptr x, now x)
+
+-- 01: "uncopied": the part from a to e lies in its slice, a bytes behind the front
+abbrev pub partOf : RefT (List ℕ) → ℕ → ℕ → Lent
+partOf x a e = ((ptr x .0, a + ptr x .1), part a e (now x))
+
+-- 01: "if that part does not fit in its slice, the empty part at the front of the text"
+unfoldable pub fitted : RefT (List ℕ) → RefT (List ℕ) → ℕ → ℕ → Lent
+fitted text x a e = cond (leb a e && leb e (length (now x))) (partOf x a e) (partOf text 0 0)
+
+-- 01: the show call hands back "a part of the source text or a part of the scratch"
+unfoldable pub shown : RefT (List ℕ) → RefT (List ℕ) → Part → Lent
+shown text scratch (Part.Source a e) = fitted text text a e
+shown text scratch (Part.Scratch a e) = fitted text scratch a e
 
 -- ---- what the private functions ask: a valid cursor c, at which the token t was read, with its spelling and the cursor behind it
 pub record Reads (s : List ℕ) (c : Cursor) (t : Token) (spelling : Spelling) (next : Cursor) : Type 0 where

@@ -14,7 +14,7 @@ use crate::token::read_token;
 ghost use mathlib.Core.Path.{_≡_};
 ghost use lib.ListN.{length};
 ghost use Rattle.lexer.specs.Cursor.{Valid};
-ghost use Rattle.lexer.specs.Text.{leaves, counts, tokenText, nextTokenText, quotedText, shown, Reads};
+ghost use Rattle.lexer.specs.Text.{leaves, counts, tokenText, nextTokenText, quotedText, seen, shown, Reads};
 ghost use Rattle.lexer.specs.declared.token.Spelling.{Spelling};
 
 // A part of the source text, or of the scratch.
@@ -167,9 +167,9 @@ pub fn quoted_text(text: &[u8], start: usize, scratch: &mut [u8]) -> usize
     }
 }
 
-// The show call: the part itself, uncopied; where it is not there, the empty part at the front of the text.
+// The show call: the part itself, uncopied; where it is not there, the empty part at the front of the text. The contract fixes the place, too.
 pub fn show<'a>(text: &'a [u8], scratch: &'a [u8], part: Part) -> &'a [u8]
-    ensures { λ r. ⌜ now r ≡ shown (now (text .entry)) (now (scratch .entry)) part ⌝ }
+    ensures { λ r. ⌜ seen r ≡ shown (text .entry) (scratch .entry) part ⌝ }
 {
     match part {
         Part::Source { start, end } => {

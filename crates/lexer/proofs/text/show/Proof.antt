@@ -1,45 +1,45 @@
 -- `lexer::text::show` meets its contract. Assumes nothing.
 use Prim.Native.Nat.{ℕ, _<_, _≤_}
 use mathlib.Core.Path.{_≡_}
-use mathlib.Core.List.{List, []}
+use mathlib.Core.List.{List}
 use lib.ListN.{length}
+use denote.Ref.{RefT, now}
 use borrow.Author.Tests.{le-leb, lt-leb}
 use borrow.Author.Needs.{needs}
-use Rattle.lexer.specs.Cursor.{part}
-use Rattle.lexer.specs.Text.{fitted, shown}
+use Rattle.lexer.specs.Text.{partOf, fitted, shown}
 use Rattle.lexer.specs.declared.text.Part.{Part}
 use Rattle.lexer.specs.declared.text.Part.the-variants.{Source, Scratch}
 use Rattle.lexer.proofs.text.show.Statement.{statement}
 use Rattle.lexer.proofs.text.show.Tie as tie
 
 -- the ways out: x is the slice of which p is a part, from a to e
-module _ (s d : List ℕ) (p : Part) (a e : ℕ) (x : List ℕ) (q : shown s d p ≡ fitted a e x) where
-  back : e < a → [] ≡ shown s d p
+module _ (s d : RefT (List ℕ)) (p : Part) (a e : ℕ) (x : RefT (List ℕ)) (q : shown s d p ≡ fitted s x a e) where
+  back : e < a → partOf s 0 0 ≡ shown s d p
   unfolding fitted
   back h = cc (lt-leb a e h)
 
-  long : a ≤ e → length x < e → [] ≡ shown s d p
+  long : a ≤ e → length (now x) < e → partOf s 0 0 ≡ shown s d p
   unfolding fitted
-  long h k = cc (le-leb a e h, lt-leb e (length x) k)
+  long h k = cc (le-leb a e h, lt-leb e (length (now x)) k)
 
-  within : a ≤ e → e ≤ length x → part a e x ≡ shown s d p
+  within : a ≤ e → e ≤ length (now x) → partOf x a e ≡ shown s d p
   unfolding fitted
-  within h k = cc (le-leb a e h, le-leb e (length x) k)
+  within h k = cc (le-leb a e h, le-leb e (length (now x)) k)
 
-module _ (s d : List ℕ) (p : Part) (a e : ℕ) where
-  source : p ≡ Source a e → shown s d p ≡ fitted a e s
+module _ (s d : RefT (List ℕ)) (p : Part) (a e : ℕ) where
+  source : p ≡ Source a e → shown s d p ≡ fitted s s a e
   unfolding shown
   source q = cc
 
-  scratch : p ≡ Scratch a e → shown s d p ≡ fitted a e d
+  scratch : p ≡ Scratch a e → shown s d p ≡ fitted s d a e
   unfolding shown
   scratch q = cc
 
   -- nothing but the part itself tells `search` of which slice it is
-  source-back : p ≡ Source a e → e < a → [] ≡ shown s d p
+  source-back : p ≡ Source a e → e < a → partOf s 0 0 ≡ shown s d p
   source-back q h = back s d p a e s (source q) h
 
-  scratch-back : p ≡ Scratch a e → e < a → [] ≡ shown s d p
+  scratch-back : p ≡ Scratch a e → e < a → partOf s 0 0 ≡ shown s d p
   scratch-back q h = back s d p a e d (scratch q) h
 
 ruleset ways = (source-back, scratch-back, long, within, source, scratch, needs)
