@@ -1,27 +1,14 @@
--- The C interface: what the text and line functions return and leave, from the answer of the call that each is named after; the fields of a token, a clause
--- and a refusal are in `crates/fields/specs`. Definitions only.
+-- The C interface: what the text and line functions return and leave, from the answer of the call that each is named after; the fields of a token, its text,
+-- a clause and a refusal are in `crates/fields/specs`. Definitions only.
 use Prim.Native.Nat.{ℕ}
 use mathlib.Core.Path.{_≡_}
-use mathlib.Core.List.{List, [], _∷_}
+use mathlib.Core.List.{List}
 use lib.Seq.{sets}
 use Rattle.lexer.specs.Text as Text
 use Rattle.lexer.specs.declared.cursor.Cursor.{Cursor}
-use Rattle.lexer.specs.declared.text.Part.{Part}
-use Rattle.lexer.specs.declared.text.Part.the-variants.{Source, Scratch}
-use Rattle.lexer.specs.declared.text.TextAnswer.{TextAnswer}
 use Rattle.reader.specs.LineCall as LineCall
 use Rattle.reader.specs.declared.line_call.LineAnswer.{LineAnswer}
-use Rattle.fields.specs.Fields.{Outcome, leaves, tokenFields, countFields, refusedFields}
-
--- what struct thrinvage_token_text has behind its token: enum thrinvage_part, and the part
-abbrev pub partFields : Part → List ℕ
-partFields (Source a e) = 0 ∷ a ∷ e ∷ []
-partFields (Scratch a e) = 1 ∷ a ∷ e ∷ []
-
--- ---- the answers
-unfoldable pub answerTextLeaves : TextAnswer → List ℕ → Outcome
-answerTextLeaves (TextAnswer.Read t c p) d = leaves 0 (sets (sets d 0 (tokenFields t c)) 8 (partFields p))
-answerTextLeaves (TextAnswer.Refused w c) d = refusedFields w d
+use Rattle.fields.specs.Fields.{Outcome, leaves, countFields, refusedFields, answerTextLeaves}
 
 unfoldable pub lineLeaves : LineAnswer → List ℕ → Outcome
 lineLeaves (LineAnswer.Read n c) d = leaves 0 (sets d 0 (countFields n c))

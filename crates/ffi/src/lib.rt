@@ -1,20 +1,33 @@
 // The C interface: the calls of `lexer` and `reader` over numbers, byte slices and lent arrays of fixed layout. `include/thrinvage.h` documents each
 // function, each field and each number for those who call it. Nothing is asked of the caller: each contract ties a function to the call it is named after.
 // The token call is in `ffi_token`, the clause call in `ffi_clause`.
-mod parts;
-
+use fields::READ;
 use fields::put_answer;
+use fields::put_count;
+use fields::put_fault;
+use fields::put_text;
 use lexer::Cursor;
 use lexer::next_number_token;
 use lexer::next_token_text;
-use parts::put_line;
-use parts::put_text;
+use reader::LineAnswer;
 use reader::list_clause;
 ghost use mathlib.Core.Path.{_≡_};
 ghost use Rattle.lexer.specs.Token.{nextNumberToken};
 ghost use Rattle.lexer.specs.Text.{nextTokenText};
 ghost use Rattle.fields.specs.Fields.{cursorAt, leaves, answerLeaves};
-ghost use Rattle.ffi.specs.Parts.{left, textLeaves, LineLeft};
+ghost use Rattle.ffi.specs.Parts.{left, textLeaves, lineLeaves, LineLeft};
+
+fn put_line(answer: LineAnswer, fields: &mut [u64; 5]) -> u32
+    ensures { λ r. ⌜ leaves r (now (fields .exit)) ≡ lineLeaves answer (now (fields .entry)) ⌝ }
+{
+    match answer {
+        LineAnswer::Refused { fault, cursor: _ } => put_fault(fault, fields),
+        LineAnswer::Read { length, next } => {
+            put_count(length, next, fields);
+            READ
+        }
+    }
+}
 
 #[no_mangle]
 pub extern "C" fn thrinvage_next_number_token(

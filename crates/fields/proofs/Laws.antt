@@ -13,9 +13,12 @@ use Rattle.lexer.specs.declared.cursor.Cursor.{Cursor}
 use Rattle.lexer.specs.declared.kind.Value.{Value}
 use Rattle.lexer.specs.declared.kind.Value.the-variants.{Float as Double}
 use Rattle.lexer.specs.declared.refusal.Fault.{Fault}
+use Rattle.lexer.specs.declared.text.Part.{Part}
+use Rattle.lexer.specs.declared.text.Part.the-variants.{Source, Scratch}
+use Rattle.lexer.specs.declared.text.TextAnswer.{TextAnswer}
 use Rattle.lexer.specs.declared.token.Answer.{Answer}
 use Rattle.lexer.specs.declared.token.Token.{Token}
-use Rattle.fields.specs.Fields.{Outcome, leaves, Room, kindNumber, valueKind, valueBits, bitsOf, refusedFields, cursorFields, kindFields, tokenFields, countFields, answerLeaves}
+use Rattle.fields.specs.Fields.{Outcome, leaves, Room, kindNumber, valueKind, valueBits, bitsOf, refusedFields, cursorFields, kindFields, tokenFields, partFields, countFields, answerLeaves, answerTextLeaves}
 
 -- a field with a lower number than the count is there
 pub there : {n k : ℕ} (d : List ℕ) → Room n d → ltb k n ≡ true → k < length d
@@ -37,6 +40,12 @@ module _ (f : List ℕ) where
   pub token-set : (t : Token) (c : Cursor) (g h : List ℕ) → g ≡ sets f 0 (cursorFields c) → h ≡ sets g 4 (kindFields t) → h ≡ sets f 0 (tokenFields t c)
   token-set t c g h e k = cc
 
+  pub source-set : (p : Part) (a e : ℕ) → p ≡ Source a e → set (set (set f 8 0) 9 a) 10 e ≡ sets f 8 (partFields p)
+  source-set p a e h = cc
+
+  pub scratch-set : (p : Part) (a e : ℕ) → p ≡ Scratch a e → set (set (set f 8 1) 9 a) 10 e ≡ sets f 8 (partFields p)
+  scratch-set p a e h = cc
+
   pub count-set : (n : ℕ) (c : Cursor) (g : List ℕ) → g ≡ sets f 0 (cursorFields c) → set g 4 n ≡ sets f 0 (countFields n c)
   count-set n c g e = cc
 
@@ -45,13 +54,24 @@ double-bits v x r h e = cc
 
 -- ---- what an answer leaves, refused or read
 module _ (f : List ℕ) where
-  pub token-refused : (w : Fault) (c : Cursor) (o : Outcome) → o ≡ refusedFields w f → (a : Answer) → a ≡ Answer.Refused w c → o ≡ answerLeaves a f
-  unfolding answerLeaves
-  token-refused w c o e a g = cc
+  module _ (w : Fault) (c : Cursor) (o : Outcome) (e : o ≡ refusedFields w f) where
+    pub token-refused : (a : Answer) → a ≡ Answer.Refused w c → o ≡ answerLeaves a f
+    unfolding answerLeaves
+    token-refused a g = cc
 
-  pub token-read : (c : Cursor) (g : List ℕ) (a : Answer) (t : Token) → a ≡ Answer.Read t c → g ≡ sets f 0 (tokenFields t c) → leaves 0 g ≡ answerLeaves a f
-  unfolding answerLeaves
-  token-read c g a t h e = cc
+    pub text-refused : (a : TextAnswer) → a ≡ TextAnswer.Refused w c → o ≡ answerTextLeaves a f
+    unfolding answerTextLeaves
+    text-refused a g = cc
+
+  module _ (t : Token) (c : Cursor) (g : List ℕ) (e : g ≡ sets f 0 (tokenFields t c)) where
+    pub token-read : (a : Answer) → a ≡ Answer.Read t c → leaves 0 g ≡ answerLeaves a f
+    unfolding answerLeaves
+    token-read a h = cc
+
+    -- the token's fields, then its part's
+    pub text-read : (a : TextAnswer) (p : Part) (k : List ℕ) → a ≡ TextAnswer.Read t c p → k ≡ sets g 8 (partFields p) → leaves 0 k ≡ answerTextLeaves a f
+    unfolding answerTextLeaves
+    text-read a p k h q = cc
 
   -- the answer of the call that it is named after
   pub of-call : (o : Outcome) (a b : Answer) → a ≡ b → o ≡ answerLeaves a f → o ≡ answerLeaves b f

@@ -13,6 +13,9 @@ use Rattle.lexer.specs.declared.kind.Kind.the-variants.{Name, Variable, String,
 use Rattle.lexer.specs.declared.kind.Value.{Value}
 use Rattle.lexer.specs.declared.kind.Value.the-variants.{Integer, Float as Double, Nothing}
 use Rattle.lexer.specs.declared.refusal.Fault.{Fault}
+use Rattle.lexer.specs.declared.text.Part.{Part}
+use Rattle.lexer.specs.declared.text.Part.the-variants.{Source, Scratch}
+use Rattle.lexer.specs.declared.text.TextAnswer.{TextAnswer}
 use Rattle.lexer.specs.declared.token.Answer.{Answer}
 use Rattle.lexer.specs.declared.token.Token.{Token}
 
@@ -73,6 +76,11 @@ kindFields t = kindNumber (t .kind) ∷ t .start ∷ valueKind (t .value) ∷ va
 abbrev pub tokenFields : Token → Cursor → List ℕ
 tokenFields t c = cursorFields c ++ kindFields t
 
+-- what struct thrinvage_token_text has behind its token: enum thrinvage_part, and the part
+abbrev pub partFields : Part → List ℕ
+partFields (Source a e) = 0 ∷ a ∷ e ∷ []
+partFields (Scratch a e) = 1 ∷ a ∷ e ∷ []
+
 -- struct thrinvage_clause
 abbrev pub countFields : ℕ → Cursor → List ℕ
 countFields n c = cursorFields c ++ n ∷ []
@@ -84,6 +92,10 @@ refusedFields w d = leaves (numberOf (w .refusal)) (set d 3 (w .offset))
 unfoldable pub answerLeaves : Answer → List ℕ → Outcome
 answerLeaves (Answer.Read t c) d = leaves 0 (sets d 0 (tokenFields t c))
 answerLeaves (Answer.Refused w c) d = refusedFields w d
+
+unfoldable pub answerTextLeaves : TextAnswer → List ℕ → Outcome
+answerTextLeaves (TextAnswer.Read t c p) d = leaves 0 (sets (sets d 0 (tokenFields t c)) 8 (partFields p))
+answerTextLeaves (TextAnswer.Refused w c) d = refusedFields w d
 
 -- ---- what the private functions ask: n fields at least
 pub record Room (n : ℕ) (d : List ℕ) : Type 0 where

@@ -1,15 +1,18 @@
-// The fields of a token and of a clause, in the order of the structs of `include/thrinvage.h`, for the crates that make up the C interface. Those of a refusal are left
-// as they were, but for its offset.
+// The fields of a token, of a token with its text and of a clause, in the order of the structs of `include/thrinvage.h`, for the crates that make up the C
+// interface. Those of a refusal are left as they were, but for its offset. What is public takes an array whose length is in its type and asks for nothing;
+// the private functions serve all three lengths, and ask for the room.
 use lexer::Answer;
 use lexer::Cursor;
 use lexer::Fault;
 use lexer::Kind;
+use lexer::Part;
+use lexer::TextAnswer;
 use lexer::Token;
 use lexer::Value;
 use lexer::refusal_number;
 ghost use mathlib.Core.Path.{_≡_};
 ghost use lib.Seq.{sets};
-ghost use Rattle.fields.specs.Fields.{leaves, kindNumber, valueKind, valueBits, bitsOf, refusedFields, cursorFields, kindFields, tokenFields, countFields, answerLeaves, Room};
+ghost use Rattle.fields.specs.Fields.{leaves, kindNumber, valueKind, valueBits, bitsOf, refusedFields, cursorFields, kindFields, tokenFields, partFields, countFields, answerLeaves, answerTextLeaves, Room};
 
 const OFFSET: usize = 0;
 
@@ -26,6 +29,12 @@ const START: usize = 5;
 const VALUE_KIND: usize = 6;
 
 const VALUE: usize = 7;
+
+const PART: usize = 8;
+
+const PART_START: usize = 9;
+
+const PART_END: usize = 10;
 
 // Of a clause: the nodes of its tree, or the bytes of its line.
 const COUNT: usize = 4;
@@ -87,7 +96,7 @@ fn value_bits(value: Value) -> u64
 }
 
 // A refusal: its offset is put down, and its number handed back.
-pub fn put_fault(fault: Fault, fields: &mut [u64]) -> u32
+fn put_refused(fault: Fault, fields: &mut [u64]) -> u32
     requires { ⌜ Room 5 (now fields) ⌝ }
     ensures { λ r. ⌜ leaves r (now (fields .exit)) ≡ refusedFields fault (now (fields .entry)) ⌝ }
 {
@@ -123,7 +132,7 @@ fn put_kind(token: Token, fields: &mut [u64])
     fields[VALUE] = bits;
 }
 
-pub fn put_token(token: Token, next: Cursor, fields: &mut [u64])
+fn put_token(token: Token, next: Cursor, fields: &mut [u64])
     requires { ⌜ Room 8 (now fields) ⌝ }
     ensures { λ _. ⌜ now (fields .exit) ≡ sets (now (fields .entry)) 0 (tokenFields token next) ⌝ }
 {
@@ -131,23 +140,60 @@ pub fn put_token(token: Token, next: Cursor, fields: &mut [u64])
     put_kind(token, fields);
 }
 
-// What was counted, and the cursor behind the clause.
-pub fn put_count(count: usize, next: Cursor, fields: &mut [u64])
-    requires { ⌜ Room 5 (now fields) ⌝ }
-    ensures { λ _. ⌜ now (fields .exit) ≡ sets (now (fields .entry)) 0 (countFields count next) ⌝ }
+// Where a token's text stands.
+fn put_part(part: Part, fields: &mut [u64; 11])
+    ensures { λ _. ⌜ now (fields .exit) ≡ sets (now (fields .entry)) 8 (partFields part) ⌝ }
 {
-    put_cursor(next, fields);
-    fields[COUNT] = count as u64;
+    match part {
+        Part::Source { start, end } => {
+            fields[PART] = 0;
+            fields[PART_START] = start as u64;
+            fields[PART_END] = end as u64;
+        }
+        Part::Scratch { start, end } => {
+            fields[PART] = 1;
+            fields[PART_START] = start as u64;
+            fields[PART_END] = end as u64;
+        }
+    }
 }
 
 pub fn put_answer(answer: Answer, fields: &mut [u64; 8]) -> u32
     ensures { λ r. ⌜ leaves r (now (fields .exit)) ≡ answerLeaves answer (now (fields .entry)) ⌝ }
 {
     match answer {
-        Answer::Refused { fault, cursor: _ } => put_fault(fault, fields),
+        Answer::Refused { fault, cursor: _ } => put_refused(fault, fields),
         Answer::Read { token, next } => {
             put_token(token, next, fields);
             READ
         }
     }
+}
+
+pub fn put_text(answer: TextAnswer, fields: &mut [u64; 11]) -> u32
+    ensures { λ r. ⌜ leaves r (now (fields .exit)) ≡ answerTextLeaves answer (now (fields .entry)) ⌝ }
+{
+    match answer {
+        TextAnswer::Refused { fault, cursor: _ } => put_refused(fault, fields),
+        TextAnswer::Read { token, next, part } => {
+            put_token(token, next, fields);
+            put_part(part, fields);
+            READ
+        }
+    }
+}
+
+// A refused clause.
+pub fn put_fault(fault: Fault, fields: &mut [u64; 5]) -> u32
+    ensures { λ r. ⌜ leaves r (now (fields .exit)) ≡ refusedFields fault (now (fields .entry)) ⌝ }
+{
+    put_refused(fault, fields)
+}
+
+// What was counted of a clause, and the cursor behind it.
+pub fn put_count(count: usize, next: Cursor, fields: &mut [u64; 5])
+    ensures { λ _. ⌜ now (fields .exit) ≡ sets (now (fields .entry)) 0 (countFields count next) ⌝ }
+{
+    put_cursor(next, fields);
+    fields[COUNT] = count as u64;
 }

@@ -10,8 +10,8 @@ ruleset ways = (token-refused, token-read, needs)
 enum-known-answer : tie.Need-enum-known-answer
 enum-known-answer c = search ways
 
-put-fault-requires : tie.Need-put-fault-requires
-put-fault-requires c κs = search ways
+put-refused-requires : tie.Need-put-refused-requires
+put-refused-requires c κs = search ways
 
 enum-known-answer-2 : tie.Need-enum-known-answer-2
 enum-known-answer-2 c = search ways
@@ -30,7 +30,7 @@ put-answer-spec =
     tie.close
     (tie.spec
     enum-known-answer
-    put-fault-requires
+    put-refused-requires
     enum-known-answer-2
     put-token-requires
     returns

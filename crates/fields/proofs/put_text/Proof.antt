@@ -1,18 +1,17 @@
--- `ffi::parts::put_text` meets its contract. Assumes nothing.
+-- `fields::put_text` meets its contract. Assumes nothing.
 use borrow.Author.Needs.{needs}
-use Rattle.ffi.proofs.Laws.{text-refused, text-read}
-use Rattle.fields.proofs.Laws.{still}
-use Rattle.ffi.proofs.parts.put_text.Statement.{statement}
-use Rattle.ffi.proofs.parts.put_text.Tie as tie
+use Rattle.fields.proofs.Laws.{text-refused, text-read}
+use Rattle.fields.proofs.put_text.Statement.{statement}
+use Rattle.fields.proofs.put_text.Tie as tie
 
-ruleset ways = (text-refused, text-read, still, needs)
+ruleset ways = (text-refused, text-read, needs)
 
 -- answers
 enum-known-answer : tie.Need-enum-known-answer
 enum-known-answer c = search ways
 
-put-fault-requires : tie.Need-put-fault-requires
-put-fault-requires c κs = search ways
+put-refused-requires : tie.Need-put-refused-requires
+put-refused-requires c κs = search ways
 
 enum-known-answer-2 : tie.Need-enum-known-answer-2
 enum-known-answer-2 c = search ways
@@ -34,7 +33,7 @@ put-text-spec =
     tie.close
     (tie.spec
     enum-known-answer
-    put-fault-requires
+    put-refused-requires
     enum-known-answer-2
     put-token-requires
     put-part-requires

@@ -1,8 +1,8 @@
--- `ffi::parts::put_line` meets its contract. Assumes nothing.
+-- `ffi::put_line` meets its contract. Assumes nothing.
 use borrow.Author.Needs.{needs}
 use Rattle.ffi.proofs.Laws.{line-refused, line-read}
-use Rattle.ffi.proofs.parts.put_line.Statement.{statement}
-use Rattle.ffi.proofs.parts.put_line.Tie as tie
+use Rattle.ffi.proofs.put_line.Statement.{statement}
+use Rattle.ffi.proofs.put_line.Tie as tie
 
 ruleset ways = (line-refused, line-read, needs)
 

@@ -1,8 +1,8 @@
--- `fields::put_fault` meets its contract. Assumes nothing.
+-- `fields::put_refused` meets its contract. Assumes nothing.
 use borrow.Author.Needs.{needs}
 use Rattle.fields.proofs.Laws.{there}
-use Rattle.fields.proofs.put_fault.Statement.{statement}
-use Rattle.fields.proofs.put_fault.Tie as tie
+use Rattle.fields.proofs.put_refused.Statement.{statement}
+use Rattle.fields.proofs.put_refused.Tie as tie
 
 ruleset ways = (there, needs)
 
@@ -22,6 +22,6 @@ same-length c = search ways
 returns : tie.Need-returns
 returns c = search ways
 
-pub put-fault-spec : {M : Type 1} → statement M
-put-fault-spec =
+pub put-refused-spec : {M : Type 1} → statement M
+put-refused-spec =
     tie.close (tie.spec slice-write-fields refusal-number-requires cast-result same-length returns)
