@@ -1,7 +1,7 @@
 -- Only the Comma token begins with a comma, and it does: so the listing may tell it by its first byte. Assumes nothing.
 use Prim.Native.Nat.{ℕ, _+_}
 use mathlib.Core.Path.{_≡_, refl, sym, ap, subst, _∙_}
-use mathlib.Core.Bool.{Bool, true, false, cond}
+use mathlib.Core.Bool.{Bool, true, false}
 use mathlib.Core.List.{List}
 use lib.Dec.{eqb, ltb}
 use lib.ListN.{getD}
@@ -25,26 +25,8 @@ use Rattle.lexer.specs.declared.token.Mark.{Mark}
 use Rattle.lexer.specs.declared.token.Token.{Token}
 use Rattle.lexer.proofs.Looks.{look-byte}
 use Rattle.lexer.proofs.Spans.{by-test}
-use Rattle.lexer.specs.Cursor.{part}
-use Rattle.reader.specs.Listing.{quotedComma, spelling}
+use Rattle.reader.specs.Listing.{isComma}
 use Rattle.reader.specs.Token.{Kind, Name, Variable, String, Number, Open, OpenCT, Close, OpenList, CloseList, OpenCurly, CloseCurly, HeadTailSeparator, DoubleBar, Comma, End}
-
-unfoldable pub isComma : Kind → Bool
-isComma Name = false
-isComma Variable = false
-isComma String = false
-isComma Number = false
-isComma Open = false
-isComma OpenCT = false
-isComma Close = false
-isComma OpenList = false
-isComma CloseList = false
-isComma OpenCurly = false
-isComma CloseCurly = false
-isComma HeadTailSeparator = false
-isComma DoubleBar = false
-isComma Comma = true
-isComma End = false
 
 -- a token, if it is one, of the kind's answer v
 abbrev Says : Bool → Plain → Type 0
@@ -167,8 +149,3 @@ module _ (s : List ℕ) (t : Token) (e : ℕ) (x : Text) where
   -- a token that was read is the Comma exactly if a comma stands where it starts
   pub commas : (from : ℕ) → readLexeme false s from ≡ lexeme t e x → isComma (t .kind) ≡ eqb (getD s (t .start) 0) comma
   commas from h = commas-after from (layoutEnd s from) h
-
--- 01: the Comma token in quotes, every other as it stands
-pub spelling-by-kind : (s : List ℕ) (k : Kind) (from to : ℕ) → isComma k ≡ eqb (getD s from 0) comma → spelling s from to ≡ cond (isComma k) quotedComma (part from to s)
-unfolding spelling
-spelling-by-kind s k from to h = cc

@@ -6,7 +6,7 @@ use mathlib.Core.List.{List, [], _∷_, map}
 use Rattle.reader.specs.Token.{Name, Variable, Number, OpenCT, Close, OpenList, CloseList, OpenCurly, CloseCurly, HeadTailSeparator, Comma, End}
 use Rattle.reader.specs.Ops.{spell}
 use Rattle.reader.specs.Tree.{call, list, listTail, curly, emptyList, emptyCurly, Tree, node, nil, _◂_}
-use Rattle.reader.specs.Listing.{shapeOf, spelling, back, lastSeparator, separator, front, printed, joined, others, line}
+use Rattle.reader.specs.Listing.{shapeOf, isComma, spelled, back, lastSeparator, separator, front, printed, joined, others, line}
 use Rattle.reader.proofs.Specimens.{Piece, t, s, laidOut, one, two, x, minus}
 
 -- A clause as it stands, its tokens, its tree, its line.
@@ -37,5 +37,5 @@ table =
     ∷ []
 
 pub lines : map found table ≡ map due table
-unfolding shapeOf spelling back lastSeparator separator front printed joined others
+unfolding shapeOf isComma spelled back lastSeparator separator front printed joined others
 lines = refl

@@ -121,33 +121,33 @@ module _ (s starts ends : List ℕ) (x : Shape) (i : ℕ) (h : Node s starts end
 
 -- ---- what stands before the children, by the shape
 module _ (s starts ends : List ℕ) (x : Shape) (i : ℕ) where
-  pub front-word : x ≡ Word → front s starts ends x i ≡ word s starts ends i i
+  pub front-word : x ≡ Word → front (word s starts ends) x i ≡ word s starts ends i i
   unfolding front
   front-word e = cc
 
-  pub front-negative : x ≡ Negative → front s starts ends x i ≡ word s starts ends i (i + 1)
+  pub front-negative : x ≡ Negative → front (word s starts ends) x i ≡ word s starts ends i (i + 1)
   unfolding front
   front-negative e = cc
 
-  pub front-call : x ≡ Call → front s starts ends x i ≡ word s starts ends i i ++ openParen ∷ []
+  pub front-call : x ≡ Call → front (word s starts ends) x i ≡ word s starts ends i i ++ openParen ∷ []
   unfolding front
   front-call e = cc
 
-  pub front-square : x ≡ Square → front s starts ends x i ≡ openBracket ∷ []
+  pub front-square : x ≡ Square → front (word s starts ends) x i ≡ openBracket ∷ []
   unfolding front
   front-square e = cc
 
-  pub front-tail : x ≡ Tail → front s starts ends x i ≡ openBracket ∷ []
+  pub front-tail : x ≡ Tail → front (word s starts ends) x i ≡ openBracket ∷ []
   unfolding front
   front-tail e = cc
 
-  pub front-curly : x ≡ Curly → front s starts ends x i ≡ openBrace ∷ []
+  pub front-curly : x ≡ Curly → front (word s starts ends) x i ≡ openBrace ∷ []
   unfolding front
   front-curly e = cc
 
 -- no longer than a spelling and a bracket
-pub front-short : (s starts ends : List ℕ) (x : Shape) (i : ℕ) → Node s starts ends x i → length (front s starts ends x i) ≤ longest + 1
-unfolding front
+pub front-short : (s starts ends : List ℕ) (x : Shape) (i : ℕ) → Node s starts ends x i → length (front (word s starts ends) x i) ≤ longest + 1
+unfolding front word
 front-short s starts ends Word i h = omega (arith, spelling-short _ _ _ (as-word s starts ends Word i h refl .span))
 front-short s starts ends Negative i h = omega (arith, spelling-short _ _ _ (as-negative s starts ends Negative i h refl .span))
 front-short s starts ends Call i h =

@@ -4,7 +4,9 @@ use mathlib.Core.Path.{_≡_, refl, sym, _∙_, ap, subst}
 use mathlib.Core.Bool.{Bool, true, false, cond}
 use mathlib.Core.List.{List, [], _∷_, _++_, map}
 use native.Mathlib.Omega.{arith}
-use lib.ListN.{length, take, length-append}
+use lib.Dec.{eqb}
+use lib.ListN.{length, getD, take, length-append}
+use Rattle.lexer.specs.Chars.{comma}
 use Rattle.lexer.specs.Cursor.{valid, moveTo, Valid}
 use Rattle.lexer.specs.Token.{Text, Lexeme, lexeme, refused, readLexeme, answered, nextToken}
 use Rattle.lexer.specs.declared.cursor.Cursor.{Cursor}
@@ -13,7 +15,9 @@ use Rattle.lexer.specs.declared.token.Answer.{Answer}
 use Rattle.lexer.proofs.Calls.{read-promises}
 use Rattle.reader.specs.Token.{Token, Tok, terminals}
 use Rattle.reader.specs.Clause.{tokenIn, isEnd, Gathered, whole, stopped, tooMany, with, onward, gather}
+use Rattle.reader.specs.Listing.{isComma, tokenAt}
 use Rattle.reader.proofs.Chains.{Chain, none, more}
+use Rattle.reader.proofs.Commas.{commas}
 use Rattle.reader.proofs.Sights.{Known, known}
 use Rattle.reader.proofs.Turns.{answered-there}
 
@@ -47,10 +51,21 @@ unfolding withAll with
 with-too-many [] = refl
 with-too-many (t ∷ ts) = ap (with t) (with-too-many ts)
 
+-- each is the Comma exactly if a comma stands where it starts
+abbrev pub Told : List ℕ → List Token → Type 0
+Told s ts = (i : ℕ) → i < length ts → isComma (tokenAt ts i .kind) ≡ eqb (getD s (tokenAt ts i .start) 0) comma
+
+told-none : (s : List ℕ) → Told s []
+told-none s i l = absurd (omega arith)
+
 -- ---- one token more
 module _ (s : List ℕ) (c : Cursor) (t : lexer.Token) (d : Cursor) (k : Known s c t d) (n : ℕ) where
   its-token : Token
   its-token = tokenIn s t (d .offset) (k .text)
+
+  told-known : (ts : List Token) → Told s ts → Told s (tokenIn s t (d .offset) (k .text) ∷ ts)
+  told-known ts r zero l = commas s t (d .offset) (k .text) (c .offset) (k .reads)
+  told-known ts r (suc i) l = r i (omega arith)
 
   gather-known : gather (suc n) s c ≡ cond (isEnd (t .kind)) (whole (its-token ∷ []) d) (with its-token (gather n s d))
   unfolding gather onward its-token
@@ -74,6 +89,7 @@ gather-stopped s c n e = ap (λ (x : Lexeme). onward s c x (λ e. gather n s e))
 pub record Few (s : List ℕ) (c : Cursor) (n : ℕ) (ts : List Token) (e : Cursor) : Type 0 where
   pub few : length ts ≤ n
   pub chain : Chain (length s) (c .offset) ts
+  pub told : Told s ts
   pub further : c .offset < e .offset
   pub next-passes : valid (length s) e ≡ true
 
@@ -102,7 +118,13 @@ module _ (s : List ℕ) (c : Cursor) (v : valid (length s) c ≡ true) (n : ℕ)
           let z : d ≡ e = cc (gather-end s c t d k n b) in
           subst (λ (us : List Token). Few s c (suc n) us e) m
           (subst (Few s c (suc n) (tokenIn s t (d .offset) (k .text) ∷ [])) z
-          (record { few = omega arith; chain = more (p .behind) (p .ahead) (none (p .inside)); further = p .further; next-passes = p .next-passes }))
+          (record {
+            few = omega arith;
+            chain = more (p .behind) (p .ahead) (none (p .inside));
+            told = told-known s c t d k n [] (told-none s);
+            further = p .further;
+            next-passes = p .next-passes;
+          }))
       go false b =
           let k = known s c t d r in
           let p = read-promises false s c t d r in
@@ -112,6 +134,7 @@ module _ (s : List ℕ) (c : Cursor) (v : valid (length s) c ≡ true) (n : ℕ)
           (record {
             few = omega (arith, f .few);
             chain = more (p .behind) (p .ahead) (f .chain);
+            told = told-known s c t d k n (a .rest) (f .told);
             further = omega (arith, p .further, f .further);
             next-passes = f .next-passes;
           })

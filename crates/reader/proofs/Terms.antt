@@ -57,7 +57,7 @@ module _ (ms : List ℕ) (n : ℕ) (left : List ℕ) (i p : ℕ) (whole : n ≤ 
       ∙ getD-at (left ++ i ∷ []) p [] 0 (m + 1) (length-append left (i ∷ []) ∙ omega arith)
 
 -- ---- the last of the children
-module _ (s starts ends : List ℕ) where
+module _ (word : ℕ → ℕ → List ℕ) where
   pub record Split (c tokens : ℕ) (f : Forest) : Type 0 where
     pub rest : Forest
     pub last : Tree
@@ -65,7 +65,7 @@ module _ (s starts ends : List ℕ) where
     pub within-rest : WithinAll tokens rest
     pub within-last : Within tokens last
     pub numbered : numbersAll f ≡ numbersAll rest ++ numbers last
-    pub parted : others s starts ends c f ≡ others s starts ends comma rest ++ c ∷ printed s starts ends last
+    pub parted : others word c f ≡ others word comma rest ++ c ∷ printed word last
 
   comma-always : (f : Forest) → separator comma f ≡ comma
   unfolding separator
@@ -82,7 +82,7 @@ module _ (s starts ends : List ℕ) where
         within-rest = none;
         within-last = h;
         numbered = append-nil (numbers t);
-        parted = ap (λ (l : List ℕ). c ∷ l) (append-nil (printed s starts ends t));
+        parted = ap (λ (l : List ℕ). c ∷ l) (append-nil (printed word t));
       }
 
   split-more : (c tokens : ℕ) (t u : Tree) (f : Forest) → Within tokens t → Split c tokens (u ◂ f) → Split c tokens (t ◂ u ◂ f)
@@ -96,9 +96,9 @@ module _ (s starts ends : List ℕ) where
         within-last = v .within-last;
         numbered = ap (λ (l : List ℕ). numbers t ++ l) (v .numbered) ∙ sym (append-assoc (numbers t) (numbersAll (v .rest)) (numbers (v .last)));
         parted =
-            ap (λ (l : List ℕ). comma ∷ printed s starts ends t ++ l) (v .parted)
-            ∙ ap (λ (l : List ℕ). comma ∷ l) (sym (append-assoc (printed s starts ends t) (others s starts ends comma (v .rest)) (c ∷ printed s starts ends (v .last))))
-            ∙ ap (λ (k : ℕ). k ∷ (printed s starts ends t ++ others s starts ends comma (v .rest)) ++ c ∷ printed s starts ends (v .last)) (sym (comma-always (v .rest)));
+            ap (λ (l : List ℕ). comma ∷ printed word t ++ l) (v .parted)
+            ∙ ap (λ (l : List ℕ). comma ∷ l) (sym (append-assoc (printed word t) (others word comma (v .rest)) (c ∷ printed word (v .last))))
+            ∙ ap (λ (k : ℕ). k ∷ (printed word t ++ others word comma (v .rest)) ++ c ∷ printed word (v .last)) (sym (comma-always (v .rest)));
       }
 
   pub split : (c tokens : ℕ) (t : Tree) (f : Forest) → WithinAll tokens (t ◂ f) → Split c tokens (t ◂ f)
@@ -106,26 +106,26 @@ module _ (s starts ends : List ℕ) where
   split c tokens t (u ◂ f) (more h k) = split-more c tokens t u f h (split c tokens u f k)
 
 -- ---- the line is as long as its nodes are together
-module _ (s starts ends : List ℕ) where
+module _ (word : ℕ → ℕ → List ℕ) where
   -- a node's numbers in front of others
   own-node : (i : ℕ) (k : NodeKind) (a : ℕ) (ns : List ℕ) → a < 1024
-      → ownAll s starts ends (i ∷ packed k a ∷ ns) ≡ length (front s starts ends (shapeOf k) i) + (a - 1) + length (back (shapeOf k)) + ownAll s starts ends ns
+      → ownAll word (i ∷ packed k a ∷ ns) ≡ length (front word (shapeOf k) i) + (a - 1) + length (back (shapeOf k)) + ownAll word ns
   unfolding ownAll own
   own-node i k a ns h = cc (packed-shape k a h, packed-arity k a h)
 
-  separated : (c : ℕ) (f : Forest) → length (joined s starts ends c f) + arity f ≡ length (others s starts ends c f) + (arity f - 1)
+  pub separated : (c : ℕ) (f : Forest) → length (joined word c f) + arity f ≡ length (others word c f) + (arity f - 1)
   unfolding joined others arity
   separated c nil = refl
   separated c (t ◂ f) = omega arith
 
-  printed-length : (i : ℕ) (k : NodeKind) (f : Forest) → length (printed s starts ends (node i k f))
-      ≡ length (front s starts ends (shapeOf k) i) + (length (joined s starts ends (lastSeparator (shapeOf k)) f) + length (back (shapeOf k)))
+  pub printed-length : (i : ℕ) (k : NodeKind) (f : Forest) → length (printed word (node i k f))
+      ≡ length (front word (shapeOf k) i) + (length (joined word (lastSeparator (shapeOf k)) f) + length (back (shapeOf k)))
   unfolding printed
   printed-length i k f = simp length-append
 
-  others-length : (c : ℕ) (t : Tree) (f : Forest) → length (others s starts ends c (t ◂ f)) ≡ length (printed s starts ends t) + length (others s starts ends c f) + 1
+  pub others-length : (c : ℕ) (t : Tree) (f : Forest) → length (others word c (t ◂ f)) ≡ length (printed word t) + length (others word c f) + 1
   unfolding others
-  others-length c t f = omega (arith, length-append (printed s starts ends t) (others s starts ends c f))
+  others-length c t f = omega (arith, length-append (printed word t) (others word c f))
 
   node-split : (i : ℕ) (k : NodeKind) (f : Forest) (ns : List ℕ) → numbers (node i k f) ++ ns ≡ numbersAll f ++ (i ∷ packed k (arity f) ∷ ns)
   unfolding numbers
@@ -139,7 +139,7 @@ module _ (s starts ends : List ℕ) where
   unfolding numbersAll
   nil-split ns = refl
 
-  own-none : (c : ℕ) (ns : List ℕ) → ownAll s starts ends (numbersAll nil ++ ns) + arity nil ≡ length (others s starts ends c nil) + ownAll s starts ends ns
+  own-none : (c : ℕ) (ns : List ℕ) → ownAll word (numbersAll nil ++ ns) + arity nil ≡ length (others word c nil) + ownAll word ns
   unfolding numbersAll arity others
   own-none c ns = omega arith
 
@@ -148,16 +148,16 @@ module _ (s starts ends : List ℕ) where
   one-more t f = refl
 
   mutual
-    pub own-term : {tokens : ℕ} (t : Tree) → Within tokens t → (ns : List ℕ) → ownAll s starts ends (numbers t ++ ns) ≡ length (printed s starts ends t) + ownAll s starts ends ns
+    pub own-term : {tokens : ℕ} (t : Tree) → Within tokens t → (ns : List ℕ) → ownAll word (numbers t ++ ns) ≡ length (printed word t) + ownAll word ns
     own-term (node i k f) (root a b w) ns =
         let all = own-terms (lastSeparator (shapeOf k)) f w (i ∷ packed k (arity f) ∷ ns) in
-        omega (arith, ap (ownAll s starts ends) (node-split i k f ns), all, own-node i k (arity f) ns b, separated (lastSeparator (shapeOf k)) f, printed-length i k f)
+        omega (arith, ap (ownAll word) (node-split i k f ns), all, own-node i k (arity f) ns b, separated (lastSeparator (shapeOf k)) f, printed-length i k f)
 
     own-terms : {tokens : ℕ} (c : ℕ) (f : Forest) → WithinAll tokens f → (ns : List ℕ)
-        → ownAll s starts ends (numbersAll f ++ ns) + arity f ≡ length (others s starts ends c f) + ownAll s starts ends ns
+        → ownAll word (numbersAll f ++ ns) + arity f ≡ length (others word c f) + ownAll word ns
     own-terms c nil none ns = own-none c ns
     own-terms c (t ◂ f) (more h w) ns =
-        omega (arith, ap (ownAll s starts ends) (forest-split t f ns), own-term t h (numbersAll f ++ ns), own-terms c f w ns, others-length c t f, one-more t f)
+        omega (arith, ap (ownAll word) (forest-split t f ns), own-term t h (numbersAll f ++ ns), own-terms c f w ns, others-length c t f, one-more t f)
 
   -- ---- every node lies within the tokens
   node-lies : {tokens : ℕ} (i : ℕ) (k : NodeKind) (a : ℕ) → a < 1024 → lastToken (shapeOf k) i < tokens → lastToken (shapeAt (packed k a)) i < tokens

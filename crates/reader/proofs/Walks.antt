@@ -6,7 +6,7 @@ use native.Mathlib.Omega.{arith}
 use lib.ListN.{length, getD, take, drop, length-append}
 use Rattle.lexer.specs.Chars.{comma}
 use Rattle.reader.specs.Tree.{NodeKind, packed, Tree, node, Forest, nil, _◂_, arity, numbers, numbersAll}
-use Rattle.reader.specs.Listing.{shapeOf, shapeAt, lastSeparator, front, back, printed, joined, others, lastToken, Within, root, WithinAll, NodeRoom, Rooted, rootAt, put, putBefore, Room, Wrote, TermAt, SomeTerm, TermPut, TermsAt, SomeTerms, TermsPut}
+use Rattle.reader.specs.Listing.{shapeOf, shapeAt, lastSeparator, word, front, back, printed, joined, others, lastToken, Within, root, WithinAll, NodeRoom, Rooted, rootAt, put, putBefore, Room, Wrote, TermAt, SomeTerm, TermPut, TermsAt, SomeTerms, TermsPut}
 use Rattle.reader.specs.declared.listing.Before.{Before}
 use Rattle.reader.specs.declared.listing.Root.{Root}
 use Rattle.reader.proofs.Puts.{room-as, room-behind, room-before, put-both, put-none}
@@ -48,15 +48,15 @@ module _ (s starts ends ms : List ℕ) (nodes at : ℕ) (d : List ℕ) (i : ℕ)
     arity-is = ap (λ (n : Root). n .arity) e ∙ ap (λ (n : ℕ). n % 1024) packed-is ∙ packed-arity k (arity f) (within-arity (w .within))
 
     abbrev F : List ℕ
-    F = front s starts ends (r .shape) (r .token)
+    F = front (word s starts ends) (r .shape) (r .token)
 
     abbrev J : List ℕ
-    J = joined s starts ends (lastSeparator (r .shape)) f
+    J = joined (word s starts ends) (lastSeparator (r .shape)) f
 
     abbrev B : List ℕ
     B = back (r .shape)
 
-    line-is : printed s starts ends (node i k f) ≡ F ++ (J ++ B)
+    line-is : printed (word s starts ends) (node i k f) ≡ F ++ (J ++ B)
     unfolding printed
     line-is = rw (shape-is, token-is)
 
@@ -87,7 +87,7 @@ module _ (s starts ends ms : List ℕ) (nodes at : ℕ) (d : List ℕ) (i : ℕ)
           }
 
       module _ (left : Before) (d₂ : List ℕ) (q : TermsPut s starts ends ms (nodes - 1) inside (r .arity) c d₁ left d₂) where
-        children-put : Wrote (nodes - 1) inside d₁ (numbersAll f) (joined s starts ends c f) left d₂
+        children-put : Wrote (nodes - 1) inside d₁ (numbersAll f) (joined (word s starts ends) c f) left d₂
         children-put = q .wrote f children-at
 
         behind-put : put (left .at) d₂ ≡ putBefore (J ++ B) at d
@@ -101,7 +101,7 @@ module _ (s starts ends ms : List ℕ) (nodes at : ℕ) (d : List ℕ) (i : ℕ)
             }
 
         term-wrote : (a : ℕ) (d₃ : List ℕ) → put a d₃ ≡ putBefore F (left .at) d₂
-            → Wrote nodes at d (numbers (node i k f)) (printed s starts ends (node i k f)) (record { nodes = left .nodes; at = a }) d₃
+            → Wrote nodes at d (numbers (node i k f)) (printed (word s starts ends) (node i k f)) (record { nodes = left .nodes; at = a }) d₃
         unfolding numbers
         term-wrote a d₃ j =
             record {
@@ -126,8 +126,8 @@ module _ (s starts ends ms : List ℕ) (nodes at : ℕ) (d : List ℕ) where
         front-room-of : length d₂ ≡ length d → (t : Tree) → TermAt s starts ends ms nodes at (length d) t → NodeRoom s starts ends (r .shape) (r .token) (left .at) (length d₂)
         front-room-of l₂ (node i k f) w = front-room-at s starts ends ms nodes at d i k f w r e inside d₁ g l c h left d₂ q l₂
 
-        wrote-of : (a : ℕ) (d₃ : List ℕ) → put a d₃ ≡ putBefore (front s starts ends (r .shape) (r .token)) (left .at) d₂
-            → (t : Tree) → TermAt s starts ends ms nodes at (length d) t → Wrote nodes at d (numbers t) (printed s starts ends t) (record { nodes = left .nodes; at = a }) d₃
+        wrote-of : (a : ℕ) (d₃ : List ℕ) → put a d₃ ≡ putBefore (front (word s starts ends) (r .shape) (r .token)) (left .at) d₂
+            → (t : Tree) → TermAt s starts ends ms nodes at (length d) t → Wrote nodes at d (numbers t) (printed (word s starts ends) t) (record { nodes = left .nodes; at = a }) d₃
         wrote-of a d₃ j (node i k f) w = term-wrote s starts ends ms nodes at d i k f w r e inside d₁ g l c h left d₂ q a d₃ j
 
 -- ---- the ways of `put_term`
@@ -150,15 +150,15 @@ module _ (s starts ends ms : List ℕ) (nodes at : ℕ) (d : List ℕ) (o : Some
         pub front-room : length d₂ ≡ length d₁ → NodeRoom s starts ends (r .shape) (r .token) (left .at) (length d₂)
         front-room l₂ = front-room-of s starts ends ms nodes at d r e inside d₁ g l c h left d₂ q (l₂ ∙ l) (o .tree) (o .is)
 
-        pub term-put : (a : ℕ) (d₃ : List ℕ) → put a d₃ ≡ putBefore (front s starts ends (r .shape) (r .token)) (left .at) d₂
+        pub term-put : (a : ℕ) (d₃ : List ℕ) → put a d₃ ≡ putBefore (front (word s starts ends) (r .shape) (r .token)) (left .at) d₂
             → TermPut s starts ends ms nodes at d (record { nodes = left .nodes; at = a }) d₃
         term-put a d₃ j = record { wrote = wrote-of s starts ends ms nodes at d r e inside d₁ g l c h left d₂ q a d₃ j }
 
 -- ---- several terms, from the last
-parts : (s starts ends : List ℕ) (c tokens : ℕ) (f : Forest) → (arity f ≡ 0 → ⊥) → WithinAll tokens f → Split s starts ends c tokens f
+parts : (s starts ends : List ℕ) (c tokens : ℕ) (f : Forest) → (arity f ≡ 0 → ⊥) → WithinAll tokens f → Split (word s starts ends) c tokens f
 unfolding arity
 parts s starts ends c tokens nil h w = absurd (h refl)
-parts s starts ends c tokens (t ◂ f) h w = split s starts ends c tokens t f w
+parts s starts ends c tokens (t ◂ f) h w = split (word s starts ends) c tokens t f w
 
 empty : (f : Forest) → arity f ≡ 0 → f ≡ nil
 unfolding arity
@@ -166,28 +166,28 @@ empty nil h = refl
 empty (t ◂ f) h = absurd (omega arith)
 
 module _ (s starts ends : List ℕ) (c : ℕ) (t : Tree) where
-  joined-one : (f rest : Forest) → (arity f ≡ 0 → ⊥) → arity rest ≡ 0 → others s starts ends c f ≡ others s starts ends comma rest ++ c ∷ printed s starts ends t
-      → joined s starts ends c f ≡ printed s starts ends t
+  joined-one : (f rest : Forest) → (arity f ≡ 0 → ⊥) → arity rest ≡ 0 → others (word s starts ends) c f ≡ others (word s starts ends) comma rest ++ c ∷ printed (word s starts ends) t
+      → joined (word s starts ends) c f ≡ printed (word s starts ends) t
   unfolding arity joined others
   joined-one nil rest h k e = absurd (h refl)
   joined-one (u ◂ f) nil h k e = cc
   joined-one (u ◂ f) (v ◂ g) h k e = absurd (omega arith)
 
-  joined-more : (f rest : Forest) → (arity f ≡ 0 → ⊥) → (arity rest ≡ 0 → ⊥) → others s starts ends c f ≡ others s starts ends comma rest ++ c ∷ printed s starts ends t
-      → joined s starts ends c f ≡ joined s starts ends comma rest ++ ((c ∷ []) ++ printed s starts ends t)
+  joined-more : (f rest : Forest) → (arity f ≡ 0 → ⊥) → (arity rest ≡ 0 → ⊥) → others (word s starts ends) c f ≡ others (word s starts ends) comma rest ++ c ∷ printed (word s starts ends) t
+      → joined (word s starts ends) c f ≡ joined (word s starts ends) comma rest ++ ((c ∷ []) ++ printed (word s starts ends) t)
   unfolding arity joined others
   joined-more nil rest h k e = absurd (h refl)
   joined-more (u ◂ f) nil h k e = absurd (k refl)
   joined-more (u ◂ f) (v ◂ g) h k e = ap (drop 1) e
 
-  last-shorter : (f rest : Forest) → (arity f ≡ 0 → ⊥) → others s starts ends c f ≡ others s starts ends comma rest ++ c ∷ printed s starts ends t
-      → length (printed s starts ends t) ≤ length (joined s starts ends c f)
+  last-shorter : (f rest : Forest) → (arity f ≡ 0 → ⊥) → others (word s starts ends) c f ≡ others (word s starts ends) comma rest ++ c ∷ printed (word s starts ends) t
+      → length (printed (word s starts ends) t) ≤ length (joined (word s starts ends) c f)
   unfolding arity joined others
   last-shorter nil rest h e = absurd (h refl)
-  last-shorter (u ◂ f) rest h e = omega (arith, ap length e, length-append (others s starts ends comma rest) (c ∷ printed s starts ends t))
+  last-shorter (u ◂ f) rest h e = omega (arith, ap length e, length-append (others (word s starts ends) comma rest) (c ∷ printed (word s starts ends) t))
 
 module _ (s starts ends ms : List ℕ) (nodes at count c : ℕ) (d : List ℕ) (f : Forest) (w : TermsAt s starts ends ms nodes at count c (length d) f) where
-  none-wrote : count ≡ 0 → Wrote nodes at d (numbersAll f) (joined s starts ends c f) (record { nodes = nodes; at = at }) d
+  none-wrote : count ≡ 0 → Wrote nodes at d (numbersAll f) (joined (word s starts ends) c f) (record { nodes = nodes; at = at }) d
   unfolding numbersAll joined
   none-wrote h = rw (empty f (w .many ∙ h)) (record { rest = omega arith; written = put-none at d })
 
@@ -195,7 +195,7 @@ module _ (s starts ends ms : List ℕ) (nodes at count c : ℕ) (d : List ℕ) (
     some : arity f ≡ 0 → ⊥
     some e = h (sym (w .many) ∙ e)
 
-    parted : Split s starts ends c (w .tokens) f
+    parted : Split (word s starts ends) c (w .tokens) f
     parted = parts s starts ends c (w .tokens) f some (w .within)
 
     abbrev T : Tree
@@ -227,10 +227,10 @@ module _ (s starts ends ms : List ℕ) (nodes at count c : ℕ) (d : List ℕ) (
         }
 
     module _ (left : Before) (d₁ : List ℕ) (q : TermPut s starts ends ms nodes at d left d₁) where
-      last-put : Wrote nodes at d (numbers T) (printed s starts ends T) left d₁
+      last-put : Wrote nodes at d (numbers T) (printed (word s starts ends) T) left d₁
       last-put = q .wrote T last-at
 
-      one-wrote : count ≡ 1 → Wrote nodes at d (numbersAll f) (joined s starts ends c f) left d₁
+      one-wrote : count ≡ 1 → Wrote nodes at d (numbersAll f) (joined (word s starts ends) c f) left d₁
       unfolding numbersAll
       one-wrote e =
           let z : arity G ≡ 0 = omega (arith, parted .count, w .many) in
@@ -241,12 +241,12 @@ module _ (s starts ends ms : List ℕ) (nodes at count c : ℕ) (d : List ℕ) (
 
       module _ (h₁ : count ≡ 1 → ⊥) where
         abbrev Js : List ℕ
-        Js = joined s starts ends comma G
+        Js = joined (word s starts ends) comma G
 
         abbrev P : List ℕ
-        P = printed s starts ends T
+        P = printed (word s starts ends) T
 
-        line : joined s starts ends c f ≡ Js ++ ((c ∷ []) ++ P)
+        line : joined (word s starts ends) c f ≡ Js ++ ((c ∷ []) ++ P)
         line = joined-more s starts ends c T f G some (λ z. h₁ (omega (arith, parted .count, w .many))) (parted .parted)
 
         joined-room : Room (Js ++ ((c ∷ []) ++ P)) at (length d)
@@ -282,7 +282,7 @@ module _ (s starts ends ms : List ℕ) (nodes at count c : ℕ) (d : List ℕ) (
               }
 
           more-wrote : length d₂ ≡ length d → (r : Before) (d₃ : List ℕ) → TermsPut s starts ends ms (left .nodes) place (count - 1) comma d₂ r d₃
-              → Wrote nodes at d (numbersAll f) (joined s starts ends c f) r d₃
+              → Wrote nodes at d (numbersAll f) (joined (word s starts ends) c f) r d₃
           more-wrote l r d₃ j =
               let v = j .wrote G (rest-at l) in
               record {

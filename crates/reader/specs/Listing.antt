@@ -2,14 +2,14 @@
 -- {a}, kinds 8 and 9 as [] and {}." Definitions only.
 use Prim.Native.Nat.{ℕ, _+_, _-_, _*_, _/_, _%_, _<_, _≤_}
 use mathlib.Core.Path.{_≡_}
-use mathlib.Core.Bool.{cond}
-use mathlib.Core.List.{List, [], _∷_, _++_, map}
+use mathlib.Core.Bool.{Bool, true, false, cond}
+use mathlib.Core.List.{List, [], _∷_, _++_}
 use lib.Dec.{eqb, leb}
 use lib.ListN.{length, getD, take}
 use lib.Seq.{sets}
 use Rattle.lexer.specs.Chars.{singleQuote, openParen, closeParen, comma, openBracket, closeBracket, openBrace, bar, closeBrace}
 use Rattle.lexer.specs.Cursor.{part, longest}
-use Rattle.reader.specs.Token.{Token}
+use Rattle.reader.specs.Token.{Kind, Name, Variable, String, Number, Open, OpenCT, Close, OpenList, CloseList, OpenCurly, CloseCurly, HeadTailSeparator, DoubleBar, Comma, End, Token}
 use Rattle.reader.specs.Tree.{NodeKind, plain, negative, call, prefix, infx, list, listTail, curly, emptyList, emptyCurly, kindNumber, Tree, node, Forest, nil, _◂_, arity, numbers, numbersAll}
 use Rattle.reader.specs.declared.listing.Shape.{Shape}
 use Rattle.reader.specs.declared.listing.Shape.the-variants.{Word, Negative, Call, Square, Tail, Curly}
@@ -35,10 +35,6 @@ shapeOf emptyCurly = Curly
 abbrev pub quotedComma : List ℕ
 quotedComma = singleQuote ∷ comma ∷ singleQuote ∷ []
 
--- the source bytes from one offset to another; the Comma token is the one that begins with a comma
-unfoldable pub spelling : List ℕ → ℕ → ℕ → List ℕ
-spelling s from to = cond (eqb (getD s from 0) comma) quotedComma (part from to s)
-
 -- what stands behind the children: name(x,y), [a,b|T], {a}
 unfoldable pub back : Shape → List ℕ
 back Word = []
@@ -62,12 +58,8 @@ unfoldable pub separator : ℕ → Forest → ℕ
 separator c nil = c
 separator c (t ◂ f) = comma
 
--- over the text, and where its tokens start and end
-module _ (s starts ends : List ℕ) where
-  -- from the start of one token to the end of another
-  abbrev pub word : ℕ → ℕ → List ℕ
-  word i j = spelling s (getD starts i 0) (getD ends j 0)
-
+-- over the bytes from the start of one token to the end of another
+module _ (word : ℕ → ℕ → List ℕ) where
   -- what stands before the children; a negative number runs from its minus to the end of the next token
   unfoldable pub front : Shape → ℕ → List ℕ
   front Word i = word i i
@@ -91,9 +83,45 @@ module _ (s starts ends : List ℕ) where
     others c nil = []
     others c (t ◂ f) = separator c f ∷ (printed t ++ others c f)
 
+-- is it the Comma token
+unfoldable pub isComma : Kind → Bool
+isComma Name = false
+isComma Variable = false
+isComma String = false
+isComma Number = false
+isComma Open = false
+isComma OpenCT = false
+isComma Close = false
+isComma OpenList = false
+isComma CloseList = false
+isComma OpenCurly = false
+isComma CloseCurly = false
+isComma HeadTailSeparator = false
+isComma DoubleBar = false
+isComma Comma = true
+isComma End = false
+
+-- the token of the index; of an index that is none, one with no bytes
+abbrev pub tokenAt : List Token → ℕ → Token
+tokenAt ts i = getD ts i (record { kind = End; text = []; start = 0; end = 0 })
+
+-- the Comma in quotes; any other as the source has it, from the start of the token i to the end of the token j
+unfoldable pub spelled : List ℕ → List Token → ℕ → ℕ → List ℕ
+spelled s ts i j = cond (isComma (tokenAt ts i .kind)) quotedComma (part (tokenAt ts i .start) (tokenAt ts j .end) s)
+
 -- the line of a clause: its text, its tokens and its tree
 abbrev pub line : List ℕ → List Token → Tree → List ℕ
-line s ts t = printed s (map (λ (k : Token). k .start) ts) (map (λ (k : Token). k .end) ts) t
+line s ts t = printed (spelled s ts) t
+
+-- ---- the same for the code, which has no kinds: only where the tokens start and end
+
+-- the Comma is told by its first byte: of the tokens of a clause that is the same (proofs/Lines: `word-spelled`)
+unfoldable pub spelling : List ℕ → ℕ → ℕ → List ℕ
+spelling s from to = cond (eqb (getD s from 0) comma) quotedComma (part from to s)
+
+-- from the start of one token to the end of another
+unfoldable pub word : List ℕ → List ℕ → List ℕ → ℕ → ℕ → List ℕ
+word s starts ends i j = spelling s (getD starts i 0) (getD ends j 0)
 
 -- what the call answers and what it leaves in the slice
 pub data Outcome : Type 0 where
@@ -145,7 +173,7 @@ pub record SomeListable (s starts ends numbered : List ℕ) (nodes : ℕ) : Type
 
 -- what the call promises: the line of the tree that the numbers stand for
 pub record Lists (s starts ends numbered : List ℕ) (nodes : ℕ) (d : List ℕ) (r : Listed) (d′ : List ℕ) : Type 0 where
-  pub line : (t : Tree) → Listable s starts ends numbered nodes t → leaves r d′ ≡ lineOutcome (printed s starts ends t) d
+  pub line : (t : Tree) → Listable s starts ends numbered nodes t → leaves r d′ ≡ lineOutcome (printed (word s starts ends) t) d
 
 -- ---- what the private functions ask and promise
 
@@ -186,7 +214,7 @@ pub record Node (s starts ends : List ℕ) (shape : Shape) (i : ℕ) : Type 0 wh
 
 pub record NodeRoom (s starts ends : List ℕ) (shape : Shape) (i at room : ℕ) : Type 0 where
   pub is : Node s starts ends shape i
-  pub place : Room (front s starts ends shape i) at room
+  pub place : Room (front (word s starts ends) shape i) at room
 
 -- the kind that has the number
 unfoldable pub kindOf : ℕ → NodeKind
@@ -206,10 +234,10 @@ kindOf n =
 abbrev pub shapeAt : ℕ → Shape
 shapeAt p = shapeOf (kindOf (p / 1024))
 
-module _ (s starts ends : List ℕ) where
+module _ (word : ℕ → ℕ → List ℕ) where
   -- what stands before the children of a node, the separators, and what stands behind
   unfoldable pub own : ℕ → ℕ → ℕ
-  own i p = length (front s starts ends (shapeAt p) i) + (p % 1024 - 1) + length (back (shapeAt p))
+  own i p = length (front word (shapeAt p) i) + (p % 1024 - 1) + length (back (shapeAt p))
 
   unfoldable pub ownAll : List ℕ → ℕ
   ownAll [] = 0
@@ -260,14 +288,14 @@ module _ (s starts ends numbered : List ℕ) (nodes at : ℕ) where
     pub tokens : ℕ
     pub source : Source s starts ends tokens
     pub within : Within tokens t
-    pub stands : Stands numbered nodes at room (numbers t) (printed s starts ends t)
+    pub stands : Stands numbered nodes at room (numbers t) (printed (word s starts ends) t)
 
   pub record SomeTerm (room : ℕ) : Type 0 where
     pub tree : Tree
     pub is : TermAt room tree
 
   pub record TermPut (d : List ℕ) (r : Before) (d′ : List ℕ) : Type 0 where
-    pub wrote : (t : Tree) → TermAt (length d) t → Wrote nodes at d (numbers t) (printed s starts ends t) r d′
+    pub wrote : (t : Tree) → TermAt (length d) t → Wrote nodes at d (numbers t) (printed (word s starts ends) t) r d′
 
   -- so many terms, with the separator c before the last
   module _ (count c : ℕ) where
@@ -276,11 +304,11 @@ module _ (s starts ends numbered : List ℕ) (nodes at : ℕ) where
       pub source : Source s starts ends tokens
       pub within : WithinAll tokens f
       pub many : arity f ≡ count
-      pub stands : Stands numbered nodes at room (numbersAll f) (joined s starts ends c f)
+      pub stands : Stands numbered nodes at room (numbersAll f) (joined (word s starts ends) c f)
 
     pub record SomeTerms (room : ℕ) : Type 0 where
       pub forest : Forest
       pub are : TermsAt room forest
 
     pub record TermsPut (d : List ℕ) (r : Before) (d′ : List ℕ) : Type 0 where
-      pub wrote : (f : Forest) → TermsAt (length d) f → Wrote nodes at d (numbersAll f) (joined s starts ends c f) r d′
+      pub wrote : (f : Forest) → TermsAt (length d) f → Wrote nodes at d (numbersAll f) (joined (word s starts ends) c f) r d′

@@ -156,7 +156,7 @@ fn put_front(
     at: usize,
 ) -> usize
     requires { ⌜ NodeRoom (now text) (now starts) (now ends) shape token at (length (now out)) ⌝ }
-    ensures { λ r. ⌜ put r (now (out .exit)) ≡ putBefore (front (now (text .entry)) (now (starts .entry)) (now (ends .entry)) shape token) at (now (out .entry)) ⌝ }
+    ensures { λ r. ⌜ put r (now (out .exit)) ≡ putBefore (front (word (now (text .entry)) (now (starts .entry)) (now (ends .entry))) shape token) at (now (out .entry)) ⌝ }
 {
     match shape {
         Shape::Word => put_word(text, starts, ends, token, token, out, at),
@@ -293,7 +293,7 @@ fn word_length(text: &[u8], starts: &[u16], ends: &[u16], first: usize, last: us
 
 fn front_length(text: &[u8], starts: &[u16], ends: &[u16], shape: Shape, token: usize) -> usize
     requires { ⌜ Node (now text) (now starts) (now ends) shape token ⌝ }
-    ensures { λ r. ⌜ r ≡ length (front (now (text .entry)) (now (starts .entry)) (now (ends .entry)) shape token) ⌝ }
+    ensures { λ r. ⌜ r ≡ length (front (word (now (text .entry)) (now (starts .entry)) (now (ends .entry))) shape token) ⌝ }
 {
     match shape {
         Shape::Word => word_length(text, starts, ends, token, token),
@@ -331,7 +331,7 @@ fn separators(arity: u16) -> usize
 // The bytes of a node itself: what stands before, between and behind its children.
 fn node_length(text: &[u8], starts: &[u16], ends: &[u16], token: u16, packed: u16) -> usize
     requires { ⌜ Node (now text) (now starts) (now ends) (shapeAt packed) token ⌝ }
-    ensures { λ r. ⌜ r ≡ own (now (text .entry)) (now (starts .entry)) (now (ends .entry)) token packed ⌝ }
+    ensures { λ r. ⌜ r ≡ own (word (now (text .entry)) (now (starts .entry)) (now (ends .entry))) token packed ⌝ }
 {
     let shape = shape_of(packed / KIND_UNIT);
     let front = front_length(text, starts, ends, shape, wide(token));
@@ -348,7 +348,7 @@ fn line_length(
     room: usize,
 ) -> Listed
     requires { ⌜ Measurable (now text) (now starts) (now ends) (now tree) nodes ⌝ }
-    ensures { λ r. ⌜ r ≡ measured room (ownAll (now (text .entry)) (now (starts .entry)) (now (ends .entry)) (take (nodes * 2) (now (tree .entry)))) ⌝ }
+    ensures { λ r. ⌜ r ≡ measured room (ownAll (word (now (text .entry)) (now (starts .entry)) (now (ends .entry))) (take (nodes * 2) (now (tree .entry)))) ⌝ }
 {
     let end = nodes * 2;
     let mut length: usize = 0;

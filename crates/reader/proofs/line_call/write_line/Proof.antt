@@ -93,7 +93,7 @@ module _ (s : List ℕ) (c : Cursor) (ms : List ℕ) (nodes : ℕ) (e : Cursor) 
 
     module _ (d : List ℕ) (r : Listed) (d′ : List ℕ) (h : Lists s starts ends ms nodes d r d′) where
       its-line : leaves r d′ ≡ lineOutcome (line s (w .tokens) (w .tree)) d
-      its-line = lists-line s starts ends (w .tokens) (its .starts-same) (its .ends-same) ms nodes d r d′ (w .tree) listable-at within h
+      its-line = lists-line s starts ends (w .tokens) (its .starts-same) (its .ends-same) (few .told) ms nodes d r d′ (w .tree) listable-at within h
 
       listed : (n : ℕ) → r ≡ Line n → LineOutcome s c d (LineAnswer.Read n e) d′
       listed n k =

@@ -30,25 +30,26 @@ module _ (s starts ends : List ℕ) (x : Shape) (i : ℕ) where
     fits e b = record { fits = omega (arith, as-negative s starts ends x i h e .last) }
 
     longer : (r : ℕ) → x ≡ Call → r ≡ length (word s starts ends i i) → Fits w64 (r + 1)
+    unfolding word
     longer r e f = record { fits = omega (arith, spelling-short _ _ _ (call-asks e .span)) }
 
   module _ (r : ℕ) where
-    of-word : x ≡ Word → r ≡ length (word s starts ends i i) → r ≡ length (front s starts ends x i)
+    of-word : x ≡ Word → r ≡ length (word s starts ends i i) → r ≡ length (front (word s starts ends) x i)
     of-word e f = cc (front-word s starts ends x i e)
 
-    of-negative : x ≡ Negative → r ≡ length (word s starts ends i (i + 1)) → r ≡ length (front s starts ends x i)
+    of-negative : x ≡ Negative → r ≡ length (word s starts ends i (i + 1)) → r ≡ length (front (word s starts ends) x i)
     of-negative e f = cc (front-negative s starts ends x i e)
 
-    of-call : x ≡ Call → r ≡ length (word s starts ends i i) → r + 1 ≡ length (front s starts ends x i)
+    of-call : x ≡ Call → r ≡ length (word s starts ends i i) → r + 1 ≡ length (front (word s starts ends) x i)
     of-call e f = ap (λ (n : ℕ). n + 1) f ∙ sym (ap length (front-call s starts ends x i e) ∙ length-append (word s starts ends i i) (openParen ∷ []))
 
-  of-square : x ≡ Square → 1 ≡ length (front s starts ends x i)
+  of-square : x ≡ Square → 1 ≡ length (front (word s starts ends) x i)
   of-square e = ap length (sym (front-square s starts ends x i e))
 
-  of-tail : x ≡ Tail → 1 ≡ length (front s starts ends x i)
+  of-tail : x ≡ Tail → 1 ≡ length (front (word s starts ends) x i)
   of-tail e = ap length (sym (front-tail s starts ends x i e))
 
-  of-curly : x ≡ Curly → 1 ≡ length (front s starts ends x i)
+  of-curly : x ≡ Curly → 1 ≡ length (front (word s starts ends) x i)
   of-curly e = ap length (sym (front-curly s starts ends x i e))
 
 ruleset ways = (word-asks, negative-asks, call-asks, fits, longer, of-word, of-negative, of-call, of-square, of-tail, of-curly, needs)

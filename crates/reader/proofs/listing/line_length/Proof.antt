@@ -10,7 +10,7 @@ use borrow.Author.Tests.{le-leb, lt-leb}
 use lib.ListN.{length, getD, take, drop, length-drop}
 use lib.Seq.{getD-take, length-take-le}
 use Rattle.lexer.proofs.Steps.{drop-at, drop-end}
-use Rattle.reader.specs.Listing.{shapeAt, lastToken, own, ownAll, measured, Source, Node, Nodes, nothing, also, Measurable}
+use Rattle.reader.specs.Listing.{shapeAt, lastToken, word, own, ownAll, measured, Source, Node, Nodes, nothing, also, Measurable}
 use Rattle.reader.specs.declared.listing.Listed.the-variants.{Line, NoRoom}
 use Rattle.reader.proofs.listing.line_length.Statement.{statement}
 use Rattle.reader.proofs.listing.line_length.Tie as tie
@@ -43,7 +43,7 @@ record Inv (s starts ends ms : List ℕ) (nodes room end n at : ℕ) : Type 0 wh
   whole : nodes * 2 ≤ length ms
   ended : end ≡ nodes * 2
   are : Nodes tokens (drop at (take (nodes * 2) ms))
-  sum : n + ownAll s starts ends (drop at (take (nodes * 2) ms)) ≡ ownAll s starts ends (take (nodes * 2) ms)
+  sum : n + ownAll (word s starts ends) (drop at (take (nodes * 2) ms)) ≡ ownAll (word s starts ends) (take (nodes * 2) ms)
   low : n ≤ room
 
 begin : (s starts ends ms : List ℕ) (nodes room : ℕ) → Measurable s starts ends ms nodes → Inv s starts ends ms nodes room (nodes * 2) 0 0
@@ -61,11 +61,11 @@ beyond : (n room : ℕ) → room < n → NoRoom ≡ measured room n
 unfolding measured
 beyond n room h = cc (lt-leb n room h)
 
-ownNode : (s starts ends : List ℕ) (i p : ℕ) (ns : List ℕ) → ownAll s starts ends (i ∷ p ∷ ns) ≡ own s starts ends i p + ownAll s starts ends ns
+ownNode : (s starts ends : List ℕ) (i p : ℕ) (ns : List ℕ) → ownAll (word s starts ends) (i ∷ p ∷ ns) ≡ own (word s starts ends) i p + ownAll (word s starts ends) ns
 unfolding ownAll
 ownNode s starts ends i p ns = refl
 
-ownNone : (s starts ends : List ℕ) → ownAll s starts ends [] ≡ 0
+ownNone : (s starts ends : List ℕ) → ownAll (word s starts ends) [] ≡ 0
 unfolding ownAll
 ownNone s starts ends = refl
 
@@ -73,11 +73,11 @@ module _ (s starts ends ms : List ℕ) (nodes room end n at : ℕ) (v : Inv s st
   long : length (take (nodes * 2) ms) ≡ nodes * 2
   long = length-take-le (nodes * 2) ms (v .whole)
 
-  done : end ≤ at → Line n ≡ measured room (ownAll s starts ends (take (nodes * 2) ms))
+  done : end ≤ at → Line n ≡ measured room (ownAll (word s starts ends) (take (nodes * 2) ms))
   done h =
-      let z : ownAll s starts ends (drop at (take (nodes * 2) ms)) ≡ 0 =
-      ap (ownAll s starts ends) (drop-end (take (nodes * 2) ms) at (omega (arith, long, v .ended))) ∙ ownNone s starts ends in
-      let e : n ≡ ownAll s starts ends (take (nodes * 2) ms) = omega (arith, z, v .sum) in
+      let z : ownAll (word s starts ends) (drop at (take (nodes * 2) ms)) ≡ 0 =
+      ap (ownAll (word s starts ends)) (drop-end (take (nodes * 2) ms) at (omega (arith, long, v .ended))) ∙ ownNone s starts ends in
+      let e : n ≡ ownAll (word s starts ends) (take (nodes * 2) ms) = omega (arith, z, v .sum) in
       cc (e, fitted n room (v .low))
 
   under : n ≤ room
@@ -111,15 +111,15 @@ module _ (s starts ends ms : List ℕ) (nodes room end n at : ℕ) (v : Inv s st
     asks : Node s starts ends (shapeAt (getD ms (at + 1) 0)) (getD ms at 0)
     asks = record { tokens = v .tokens; source = v .source; within = rw (token-is, packed-is) (it .lies) }
 
-    module _ (o : ℕ) (e : o ≡ own s starts ends (getD ms at 0) (getD ms (at + 1) 0)) where
-      more : ownAll s starts ends (drop at (take (nodes * 2) ms)) ≡ o + ownAll s starts ends (drop (at + 2) (take (nodes * 2) ms))
+    module _ (o : ℕ) (e : o ≡ own (word s starts ends) (getD ms at 0) (getD ms (at + 1) 0)) where
+      more : ownAll (word s starts ends) (drop at (take (nodes * 2) ms)) ≡ o + ownAll (word s starts ends) (drop (at + 2) (take (nodes * 2) ms))
       more =
-          ap (ownAll s starts ends) (it .numbers) ∙ ownNode s starts ends (it .token) (it .packed) (it .rest)
-          ∙ ap (λ (l : List ℕ). own s starts ends (it .token) (it .packed) + ownAll s starts ends l) (sym (it .behind))
+          ap (ownAll (word s starts ends)) (it .numbers) ∙ ownNode s starts ends (it .token) (it .packed) (it .rest)
+          ∙ ap (λ (l : List ℕ). own (word s starts ends) (it .token) (it .packed) + ownAll (word s starts ends) l) (sym (it .behind))
           ∙ cc (e, token-is, packed-is)
 
-      short : room - n < o → NoRoom ≡ measured room (ownAll s starts ends (take (nodes * 2) ms))
-      short l = beyond (ownAll s starts ends (take (nodes * 2) ms)) room (omega (arith, more, v .sum, v .low))
+      short : room - n < o → NoRoom ≡ measured room (ownAll (word s starts ends) (take (nodes * 2) ms))
+      short l = beyond (ownAll (word s starts ends) (take (nodes * 2) ms)) room (omega (arith, more, v .sum, v .low))
 
       module _ (l : o ≤ room - n) where
         fits-sum : room < 2 ^ 64 → Fits w64 (n + o)

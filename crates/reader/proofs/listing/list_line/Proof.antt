@@ -11,7 +11,7 @@ use lib.Dec.{leb}
 use lib.ListN.{length, take}
 use lib.Seq.{sets}
 use Rattle.reader.specs.Tree.{Tree, numbers}
-use Rattle.reader.specs.Listing.{printed, ownAll, measured, nothing, leaves, lineOutcome, Listable, SomeListable, Lists, Measurable, TermAt, SomeTerm, TermPut}
+use Rattle.reader.specs.Listing.{word, printed, ownAll, measured, nothing, leaves, lineOutcome, Listable, SomeListable, Lists, Measurable, TermAt, SomeTerm, TermPut}
 use Rattle.reader.specs.declared.listing.Before.{Before}
 use Rattle.reader.specs.declared.listing.Listed.{Listed}
 use Rattle.reader.specs.declared.listing.Listed.the-variants.{Line, NoRoom}
@@ -51,10 +51,10 @@ noneOf bs d h = noneOf-as (leb (length bs) (length d)) h
 
 module _ (s starts ends ms : List ℕ) (nodes : ℕ) (d : List ℕ) where
   module _ (t : Tree) (w : Listable s starts ends ms nodes t) where
-    summed : ownAll s starts ends (take (nodes * 2) ms) ≡ length (printed s starts ends t)
+    summed : ownAll (word s starts ends) (take (nodes * 2) ms) ≡ length (printed (word s starts ends) t)
     unfolding ownAll
     summed =
-        ap (ownAll s starts ends) (w .same ∙ sym (append-nil (numbers t))) ∙ own-term s starts ends t (w .within) []
+        ap (ownAll (word s starts ends)) (w .same ∙ sym (append-nil (numbers t))) ∙ own-term (word s starts ends) t (w .within) []
         ∙ omega arith
 
     measurable-at : Measurable s starts ends ms nodes
@@ -63,16 +63,16 @@ module _ (s starts ends ms : List ℕ) (nodes : ℕ) (d : List ℕ) where
           tokens = w .tokens;
           source = w .source;
           whole = w .whole;
-          are = rw (w .same, ← append-nil (numbers t)) (term-nodes s starts ends t (w .within) [] nothing);
+          are = rw (w .same, ← append-nil (numbers t)) (term-nodes (word s starts ends) t (w .within) [] nothing);
         }
 
-    measured-is : (r : Listed) → r ≡ measured (length d) (ownAll s starts ends (take (nodes * 2) ms)) → measured (length d) (length (printed s starts ends t)) ≡ r
+    measured-is : (r : Listed) → r ≡ measured (length d) (ownAll (word s starts ends) (take (nodes * 2) ms)) → measured (length d) (length (printed (word s starts ends) t)) ≡ r
     measured-is r e = cc summed
 
-    module _ (n : ℕ) (h : measured (length d) (length (printed s starts ends t)) ≡ Line n) where
+    module _ (n : ℕ) (h : measured (length d) (length (printed (word s starts ends) t)) ≡ Line n) where
       term-at : TermAt s starts ends ms nodes n (length d) t
       term-at =
-          let b = fitting (length (printed s starts ends t)) (length d) n h in
+          let b = fitting (length (printed (word s starts ends) t)) (length d) n h in
           record {
             tokens = w .tokens;
             source = w .source;
@@ -80,20 +80,20 @@ module _ (s starts ends ms : List ℕ) (nodes : ℕ) (d : List ℕ) where
             stands = record { left = []; whole = w .whole; same = w .same; place = record { fits = omega (arith, b .same); inside = omega (arith, b .same, b .under) } };
           }
 
-      line-put : (r : Before) (d′ : List ℕ) → TermPut s starts ends ms nodes n d r d′ → leaves (Line n) d′ ≡ lineOutcome (printed s starts ends t) d
+      line-put : (r : Before) (d′ : List ℕ) → TermPut s starts ends ms nodes n d r d′ → leaves (Line n) d′ ≡ lineOutcome (printed (word s starts ends) t) d
       line-put r d′ q =
-          let b = fitting (length (printed s starts ends t)) (length d) n h in
-          let p = told (printed s starts ends t) n d (r .at) d′ (q .wrote t term-at .written) in
+          let b = fitting (length (printed (word s starts ends) t)) (length d) n h in
+          let p = told (printed (word s starts ends) t) n d (r .at) d′ (q .wrote t term-at .written) in
           let z : r .at ≡ 0 = omega (arith, b .same, p .start) in
-          let y : d′ ≡ sets d 0 (printed s starts ends t) = p .slice ∙ ap (λ (k : ℕ). sets d k (printed s starts ends t)) z in
-          cc (y, lineOf (printed s starts ends t) d n h)
+          let y : d′ ≡ sets d 0 (printed (word s starts ends) t) = p .slice ∙ ap (λ (k : ℕ). sets d k (printed (word s starts ends) t)) z in
+          cc (y, lineOf (printed (word s starts ends) t) d n h)
 
   measurable : SomeListable s starts ends ms nodes → Measurable s starts ends ms nodes
   measurable o = measurable-at (o .tree) (o .is)
 
-  module _ (r : Listed) (e : r ≡ measured (length d) (ownAll s starts ends (take (nodes * 2) ms))) where
+  module _ (r : Listed) (e : r ≡ measured (length d) (ownAll (word s starts ends) (take (nodes * 2) ms))) where
     no-room : r ≡ NoRoom → Lists s starts ends ms nodes d NoRoom d
-    no-room g = record { line = λ t w. noneOf (printed s starts ends t) d (measured-is t w r e ∙ g) }
+    no-room g = record { line = λ t w. noneOf (printed (word s starts ends) t) d (measured-is t w r e ∙ g) }
 
     module _ (n : ℕ) (g : r ≡ Line n) where
       term-asks : SomeListable s starts ends ms nodes → SomeTerm s starts ends ms nodes n (length d)

@@ -7,7 +7,7 @@ use borrow.Author.Needs.{needs}
 use mir.Syntax.{w64}
 use mir.Val.{Fits}
 use lib.ListN.{length}
-use Rattle.reader.specs.Listing.{kindOf, shapeOf, shapeAt, front, back, own, Node}
+use Rattle.reader.specs.Listing.{kindOf, shapeOf, shapeAt, word, front, back, own, Node}
 use Rattle.reader.proofs.Puts.{front-short, back-short}
 use Rattle.reader.specs.declared.listing.Shape.{Shape}
 use Rattle.reader.proofs.listing.node_length.Statement.{statement}
@@ -18,14 +18,14 @@ module _ (s starts ends : List ℕ) (token packed : ℕ) (x : Shape) (e : x ≡ 
     asks : Node s starts ends x i
     asks = rw (e, f) h
 
-    module _ (n : ℕ) (g : n ≡ length (front s starts ends x i)) (m : ℕ) (k : m ≡ packed % 1024 - 1) where
+    module _ (n : ℕ) (g : n ≡ length (front (word s starts ends) x i)) (m : ℕ) (k : m ≡ packed % 1024 - 1) where
       fits : Fits w64 (n + m)
       fits = record { fits = omega (arith, front-short s starts ends x i asks) }
 
       fits-all : (b : ℕ) → b ≡ length (back x) → Fits w64 (n + m + b)
       fits-all b l = record { fits = omega (arith, front-short s starts ends x i asks, back-short x) }
 
-  whole : (i n m b : ℕ) → i ≡ token → n ≡ length (front s starts ends x i) → m ≡ packed % 1024 - 1 → b ≡ length (back x) → n + m + b ≡ own s starts ends token packed
+  whole : (i n m b : ℕ) → i ≡ token → n ≡ length (front (word s starts ends) x i) → m ≡ packed % 1024 - 1 → b ≡ length (back x) → n + m + b ≡ own (word s starts ends) token packed
   unfolding own
   whole i n m b f g k l = cc
 

@@ -48,23 +48,23 @@ module _ (s starts ends : List ℕ) (x : Shape) (i : ℕ) where
         place = room-before (word s starts ends i i) (openParen ∷ []) at room (both e) d p d₁ f (length d₁) (sym l);
       }
 
-      called : (r : ℕ) (d₂ : List ℕ) → put r d₂ ≡ putBefore (word s starts ends i i) p d₁ → put r d₂ ≡ putBefore (front s starts ends x i) at d
+      called : (r : ℕ) (d₂ : List ℕ) → put r d₂ ≡ putBefore (word s starts ends i i) p d₁ → put r d₂ ≡ putBefore (front (word s starts ends) x i) at d
       called r d₂ g = cc (front-call s starts ends x i e, put-both (word s starts ends i i) (openParen ∷ []) at room (both e) d p d₁ f r d₂ g)
 
   module _ (at : ℕ) (d : List ℕ) (r : ℕ) (d′ : List ℕ) where
-    put-word : x ≡ Word → put r d′ ≡ putBefore (word s starts ends i i) at d → put r d′ ≡ putBefore (front s starts ends x i) at d
+    put-word : x ≡ Word → put r d′ ≡ putBefore (word s starts ends i i) at d → put r d′ ≡ putBefore (front (word s starts ends) x i) at d
     put-word e f = cc (front-word s starts ends x i e)
 
-    put-negative : x ≡ Negative → put r d′ ≡ putBefore (word s starts ends i (i + 1)) at d → put r d′ ≡ putBefore (front s starts ends x i) at d
+    put-negative : x ≡ Negative → put r d′ ≡ putBefore (word s starts ends i (i + 1)) at d → put r d′ ≡ putBefore (front (word s starts ends) x i) at d
     put-negative e f = cc (front-negative s starts ends x i e)
 
-    put-square : x ≡ Square → put r d′ ≡ putBefore (openBracket ∷ []) at d → put r d′ ≡ putBefore (front s starts ends x i) at d
+    put-square : x ≡ Square → put r d′ ≡ putBefore (openBracket ∷ []) at d → put r d′ ≡ putBefore (front (word s starts ends) x i) at d
     put-square e f = cc (front-square s starts ends x i e)
 
-    put-tail : x ≡ Tail → put r d′ ≡ putBefore (openBracket ∷ []) at d → put r d′ ≡ putBefore (front s starts ends x i) at d
+    put-tail : x ≡ Tail → put r d′ ≡ putBefore (openBracket ∷ []) at d → put r d′ ≡ putBefore (front (word s starts ends) x i) at d
     put-tail e f = cc (front-tail s starts ends x i e)
 
-    put-curly : x ≡ Curly → put r d′ ≡ putBefore (openBrace ∷ []) at d → put r d′ ≡ putBefore (front s starts ends x i) at d
+    put-curly : x ≡ Curly → put r d′ ≡ putBefore (openBrace ∷ []) at d → put r d′ ≡ putBefore (front (word s starts ends) x i) at d
     put-curly e f = cc (front-curly s starts ends x i e)
 
 ruleset ways = (word-asks, negative-asks, fits, open-room, square-room, tail-room, curly-room, call-asks, called, put-word, put-negative, put-square, put-tail, put-curly, needs)

@@ -17,10 +17,12 @@ module _ (s starts ends : List ℕ) (i j at room : ℕ) (h : SpannedRoom s start
 
   module _ (from to : ℕ) (e : from ≡ getD starts i 0) (f : to ≡ getD ends j 0) where
     asks : SpanRoom s from to (spelling s from to) at room
+    unfolding word
     asks = rw (e, f) (record { span = h .spanned .span; place = h .place })
 
 module _ (s starts ends : List ℕ) (i j at : ℕ) (d : List ℕ) (from to : ℕ) (e : from ≡ getD starts i 0) (f : to ≡ getD ends j 0) where
   gives : (r : ℕ) (d′ : List ℕ) → put r d′ ≡ putBefore (spelling s from to) at d → put r d′ ≡ putBefore (word s starts ends i j) at d
+  unfolding word
   gives r d′ h = cc
 
 ruleset ways = (first, last, asks, gives, needs)

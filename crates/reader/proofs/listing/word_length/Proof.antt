@@ -21,6 +21,7 @@ module _ (s starts ends : List ℕ) (i j : ℕ) (h : Spanned s starts ends i j) 
 
 module _ (s starts ends : List ℕ) (i j from to : ℕ) (e : from ≡ getD starts i 0) (f : to ≡ getD ends j 0) where
   gives : (r : ℕ) → r ≡ length (spelling s from to) → r ≡ length (word s starts ends i j)
+  unfolding word
   gives r h = cc
 
 ruleset ways = (first, last, asks, gives, needs)
