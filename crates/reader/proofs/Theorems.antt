@@ -21,7 +21,7 @@ use Rattle.reader.proofs.LineOutcomes.{some-line, one-line}
 use Rattle.reader.proofs.Outcomes.{some-outcome, one-outcome}
 use Rattle.reader.proofs.Table.{same-exactly, fair, operators-admitted}
 use Rattle.reader.proofs.Answer.{answer-complete, answer-sound, one-tree, reads?, tree-small}
-use Rattle.reader.proofs.Specimens.{All, table, specimens}
+use Rattle.reader.proofs.Specimens.{Holds, All, table, specimens}
 use Rattle.reader.proofs.Size.{framesIn, nodesIn, words-fit, places-fit, nodes-fit}
 
 -- Document 01's table is admitted.
@@ -66,7 +66,7 @@ pub names-by-text : (x y : List ℕ) → (sameText x y ≡ true) ↔ (x ≡ y)
 names-by-text = same-exactly
 
 -- Document 01's clause specimens, under its table.
-pub document-01 : All table
+pub document-01 : All Holds table
 document-01 = specimens
 
 -- The clause call: whatever the text, the cursor and the tree slice, one answer and one content of the slice are permitted.
