@@ -6,6 +6,7 @@ pub mod Table
 pub mod Size
 pub mod Answer
 pub mod Outcomes
+pub mod Permits
 pub mod Theorems
 pub mod Needed
 pub mod Specimens

@@ -6,19 +6,24 @@ use mathlib.Core.Logic.{_⊎_, _↔_}
 use mathlib.Core.Option.{some}
 use mathlib.Core.List.{List}
 use lib.ListN.{length}
+use lib.Seq.{sets}
+use Rattle.lexer.specs.Cursor.{valid}
 use Rattle.lexer.specs.declared.cursor.Cursor.{Cursor}
-use Rattle.reader.specs.Token.{Tok, sameText}
+use Rattle.lexer.specs.declared.refusal.Fault.{Fault}
+use Rattle.lexer.specs.declared.refusal.Refusal.the-variants.{NoReading}
+use Rattle.reader.specs.Token.{Token, Tok, sameText}
 use Rattle.reader.specs.Ops.{Table, operators}
 use Rattle.reader.specs.Admitted.{admits}
 use Rattle.reader.specs.Tree.{Tree, packed, numbers}
-use Rattle.reader.specs.Grammar.{Clause}
+use Rattle.reader.specs.Grammar.{Clause, Reads}
 use Rattle.reader.specs.Machine.{Out, done, run, start, answer, Numbered}
-use Rattle.reader.specs.Clause.{Outcome}
+use Rattle.reader.specs.Clause.{whole, clauseTokens, Outcome}
 use Rattle.reader.specs.LineCall.{LineOutcome}
 use Rattle.reader.specs.declared.clause.ClauseAnswer.{ClauseAnswer}
 use Rattle.reader.specs.declared.line_call.LineAnswer.{LineAnswer}
 use Rattle.reader.proofs.LineOutcomes.{some-line, one-line}
 use Rattle.reader.proofs.Outcomes.{some-outcome, one-outcome}
+use Rattle.reader.proofs.Permits.{never-no-reading, read-tree, room-reads}
 use Rattle.reader.proofs.Table.{same-exactly, fair, operators-admitted}
 use Rattle.reader.proofs.Answer.{answer-complete, answer-sound, one-tree, reads?, tree-small}
 use Rattle.reader.proofs.Specimens.{Holds, All, table, specimens}
@@ -83,3 +88,17 @@ module _ (s : List ℕ) (c : Cursor) (d : List ℕ) where
 
   pub line-coincides : {r r′ : LineAnswer} {x x′ : List ℕ} → LineOutcome s c d r x → LineOutcome s c d r′ x′ → (r ≡ r′) × (x ≡ x′)
   line-coincides = one-line s c d
+
+  -- A clause that has a reading t:
+  module _ (ts : List Token) (e : Cursor) (t : Tree) (gathered : clauseTokens s c ≡ whole ts e) (reading : Reads operators ts t) where
+    -- it is never refused with 11;
+    pub never-11 : {w : Fault} {b : Cursor} {x : List ℕ} → Outcome s c d (ClauseAnswer.Refused w b) x → w .refusal ≡ NoReading → ⊥
+    never-11 = never-no-reading s c d ts e t gathered reading
+
+    -- what is read of it is t: the node count, the cursor after the mark, the numbers in the slice;
+    pub count-is-the-trees : {n : ℕ} {b : Cursor} {x : List ℕ} → Outcome s c d (ClauseAnswer.Read n b) x → (2 * n ≡ length (numbers t)) × (b ≡ e) × (x ≡ sets d 0 (numbers t))
+    count-is-the-trees = read-tree s c d ts e t gathered reading
+
+    -- and from a valid cursor, with room for its numbers, it is read.
+    pub room-suffices : valid (length s) c ≡ true → length (numbers t) ≤ length d → {r : ClauseAnswer} {x : List ℕ} → Outcome s c d r x → (n : ℕ) × (r ≡ ClauseAnswer.Read n e)
+    room-suffices = room-reads s c d ts e t gathered reading

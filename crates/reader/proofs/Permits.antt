@@ -1,0 +1,52 @@
+-- What the outcomes come to: of a clause that has a reading no answer but the tree, 9 or 8. Assumes nothing.
+use Prim.Native.Nat.{ℕ, _*_, _≤_}
+use mathlib.Core.Path.{_≡_, _∙_, ap, subst}
+use mathlib.Core.Bool.{true}
+use mathlib.Core.List.{List}
+use native.Mathlib.Omega.{arith}
+use lib.ListN.{length}
+use lib.Seq.{sets}
+use Rattle.lexer.specs.Cursor.{valid}
+use Rattle.lexer.specs.declared.cursor.Cursor.{Cursor}
+use Rattle.lexer.specs.declared.refusal.Fault.{Fault}
+use Rattle.lexer.specs.declared.refusal.Refusal.the-variants.{NoReading}
+use Rattle.reader.specs.Token.{Token}
+use Rattle.reader.specs.Ops.{operators}
+use Rattle.reader.specs.Tree.{Tree, numbers}
+use Rattle.reader.specs.Grammar.{Reads}
+use Rattle.reader.specs.Clause.{whole, clauseTokens, Outcome, invalid, token, noMark, noReading, noRoom, read}
+use Rattle.reader.specs.declared.clause.ClauseAnswer.{ClauseAnswer}
+use Rattle.reader.specs.declared.clause.ClauseAnswer.the-variants.{Read, Refused}
+use Rattle.reader.proofs.Answer.{one-tree}
+use Rattle.reader.proofs.Table.{fair, operators-admitted}
+
+module _ (s : List ℕ) (c : Cursor) (d : List ℕ) where
+  -- a clause that has a reading
+  module _ (ts : List Token) (e : Cursor) (t : Tree) (gathered : clauseTokens s c ≡ whole ts e) (reading : Reads operators ts t) where
+    -- however its tokens were gathered, that is their reading, and the only one
+    its-reading : {us : List Token} {k : Cursor} → clauseTokens s c ≡ whole us k → Reads operators us t
+    its-reading {us} g = let q : ts ≡ us = cc in subst (λ (z : List Token). Reads operators z t) q reading
+
+    its-tree : {us : List Token} {k : Cursor} (u : Tree) → clauseTokens s c ≡ whole us k → Reads operators us u → u ≡ t
+    its-tree u g r = one-tree operators (fair operators operators-admitted) r (its-reading g)
+
+    -- 11 is not permitted
+    pub never-no-reading : {w : Fault} {b : Cursor} {x : List ℕ} → Outcome s c d (Refused w b) x → w .refusal ≡ NoReading → ⊥
+    never-no-reading (invalid v) h = let z : _≡_ {A = ℕ} 0 1 = cc in omega arith
+    never-no-reading (token v g) h = let z : _≡_ {A = ℕ} 0 1 = cc in omega arith
+    never-no-reading (noMark v g) h = let z : _≡_ {A = ℕ} 0 1 = cc in omega arith
+    never-no-reading (noReading v g n) h = n t (its-reading g)
+    never-no-reading (noRoom v g r l) h = let z : _≡_ {A = ℕ} 0 1 = cc in omega arith
+
+    -- what is read is the tree
+    pub read-tree : {n : ℕ} {b : Cursor} {x : List ℕ} → Outcome s c d (Read n b) x → (2 * n ≡ length (numbers t)) × (b ≡ e) × (x ≡ sets d 0 (numbers t))
+    read-tree (read {t = u} v g r m l) = let q = its-tree u g r in (m ∙ ap (λ (z : Tree). length (numbers z)) q, cc, ap (λ (z : Tree). sets d 0 (numbers z)) q)
+
+    -- with room for it nothing else is permitted
+    pub room-reads : valid (length s) c ≡ true → length (numbers t) ≤ length d → {r : ClauseAnswer} {x : List ℕ} → Outcome s c d r x → (n : ℕ) × (r ≡ Read n e)
+    room-reads p h (invalid v) = let z : _≡_ {A = ℕ} 0 1 = cc in absurd (omega arith)
+    room-reads p h (token v g) = let z : _≡_ {A = ℕ} 0 1 = cc in absurd (omega arith)
+    room-reads p h (noMark v g) = let z : _≡_ {A = ℕ} 0 1 = cc in absurd (omega arith)
+    room-reads p h (noReading v g n) = absurd (n t (its-reading g))
+    room-reads p h (noRoom {t = u} v g r l) = let q = ap (λ (z : Tree). length (numbers z)) (its-tree u g r) in absurd (omega arith)
+    room-reads p h (read {n = n} v g r m l) = (n, cc)
