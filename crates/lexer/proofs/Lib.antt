@@ -1,5 +1,6 @@
 pub mod Bases
 pub mod Calls
+pub mod Commas
 pub mod Cursors
 pub mod FirstMark
 pub mod Items

@@ -4,32 +4,42 @@ use mathlib.Core.Path.{_≡_, sym, _∙_, ap}
 use mathlib.Core.Bool.{Bool, true, false}
 use mathlib.Core.List.{List, [], _∷_, map}
 use Prim.Native.Nat.{ℕ, _+_, _-_, _<_, _≤_}
+use lib.Dec.{eqb}
 use lib.Ieee.{Float}
 use lib.ListN.{length, getD}
 use denote.Ref.{RefT, ptr, now}
-use Rattle.lexer.specs.Chars.{is, foreignByte}
-use Rattle.lexer.specs.Cursor.{longest, startCursor, valid}
+use Rattle.lexer.specs.Chars.{is, foreignByte, comma}
+use Rattle.lexer.specs.Cursor.{longest, startCursor, part, moveTo, valid, Valid}
 use Rattle.lexer.specs.Float.{Limits, Scale, scale, over, under, floatValue}
 use Rattle.lexer.specs.Layout.{commentText}
 use Rattle.lexer.specs.Nearest.{Nearest}
+use Rattle.lexer.specs.Quoted.{Quoted, decode}
 use Rattle.lexer.specs.Refusal.{numberOf, fault}
 use Rattle.lexer.specs.Text.{leaves, nextTokenText, seen, shown, counts, quotedText}
-use Rattle.lexer.specs.Token.{nextToken, nextNumberToken}
+use Rattle.lexer.specs.Token.{Text, decoded, lexeme, isComma, readLexeme, nextToken, nextNumberToken}
 use Rattle.lexer.specs.declared.refusal.Fault.{Fault}
 use Rattle.lexer.specs.declared.refusal.Refusal.{Refusal}
 use Rattle.lexer.specs.declared.refusal.Refusal.the-variants.{UnclosedComment, ForeignByte}
 use Rattle.lexer.specs.declared.cursor.Cursor.{Cursor}
 use Rattle.lexer.specs.declared.cursor.Scan.{Scan}
 use Rattle.lexer.specs.declared.float.Floated.{Floated}
+use Rattle.lexer.specs.declared.kind.Kind.the-variants.{Name}
 use Rattle.lexer.specs.declared.text.Part.{Part}
 use Rattle.lexer.specs.declared.text.TextAnswer.{TextAnswer}
 use Rattle.lexer.specs.declared.token.Token.{Token}
 use Rattle.lexer.specs.declared.token.Answer.{Answer}
 use Rattle.lexer.proofs.Calls.{start-passes, Promised, read-promises, refused-here}
+use Rattle.lexer.proofs.Commas.{commas}
+use Rattle.lexer.proofs.Cursors as Cursors
 use Rattle.lexer.proofs.FirstMark.{Clear, First, first-mark, mark-first, clear-end, clear-foreign}
+use Rattle.lexer.proofs.Promises.{LexemeEnds, lexeme-ends}
 use Rattle.lexer.proofs.Refusals.{all, numbers, number-once}
 use Rattle.lexer.proofs.Specimens.{table, specimens}
+pub use Rattle.lexer.proofs.Spellings.{NameText, quoted, unquoted}
+use Rattle.lexer.proofs.Spellings.{name-text}
+use Rattle.lexer.proofs.Steps as Steps
 use Rattle.lexer.proofs.TextCalls.{Told, text-told, nothing-left}
+use Rattle.lexer.proofs.Texts.{decoded-at}
 use Rattle.lexer.proofs.float.Values.{Exact, value-says, says-value, scale-exact}
 
 -- ---- 01: "two permitted outcomes coincide"
@@ -93,6 +103,39 @@ module _ (s : List ℕ) (c : Cursor) where
 
   pub text-refused : (d : List ℕ) (w : Fault) (back : Cursor) (x : List ℕ) → nextTokenText s c d ≡ leaves (TextAnswer.Refused w back) x → (back ≡ c) × (x ≡ d)
   text-refused = nothing-left s c
+
+-- what was read from an offset on, by the token call or, where `field`, by the number call: the token t, which ends at e
+module _ (field : Bool) (s : List ℕ) (from : ℕ) (t : Token) (e : ℕ) where
+  -- it starts at or after the offset, and ends behind its start, within the text
+  pub lexeme-bounds : (x : Text) → from ≤ length s → readLexeme field s from ≡ lexeme t e x → LexemeEnds s from t e
+  lexeme-bounds = lexeme-ends field s from t e
+
+  -- it is the Comma exactly if a comma stands where it starts
+  pub comma-starts : (x : Text) → readLexeme field s from ≡ lexeme t e x → isComma (t .kind) ≡ eqb (getD s (t .start) 0) comma
+  comma-starts = commas field s from t e
+
+  -- a name is quoted, and its text decoded, exactly if a single quote stands where it starts; the text of another name is its own bytes
+  pub name-spelt : (x : Text) → readLexeme field s from ≡ lexeme t e x → t .kind ≡ Name → NameText (getD s (t .start) 0) x
+  name-spelt = name-text s field from t e
+
+  -- a decoded text is that of the quoted item behind the token's first byte, which is its quote
+  pub decoded-spelt : (bs : List ℕ) → readLexeme field s from ≡ lexeme t e (decoded bs) → decode (getD s (t .start) 0) (t .start) s (t .start + 1) ≡ Quoted.whole bs e
+  decoded-spelt bs f = decoded-at s field from t e bs f .reads
+
+-- 01: what it is for a cursor to be valid, as facts
+pub is-valid : (n : ℕ) (c : Cursor) → valid n c ≡ true → Valid n c
+is-valid = Cursors.is-valid
+
+-- a cursor that is moved on within the text stands where it was moved to
+pub move-offset : (s : List ℕ) (c : Cursor) (e : ℕ) → c .offset ≤ e → e ≤ length s → moveTo s c e .offset ≡ e
+move-offset = Cursors.move-offset
+
+-- a part of a text: its first byte and the rest, or nothing
+pub part-at : (s : List ℕ) (at to : ℕ) → at < to → to ≤ length s → part at to s ≡ getD s at 0 ∷ part (at + 1) to s
+part-at = Steps.part-at
+
+pub part-none : (s : List ℕ) (at : ℕ) → part at at s ≡ []
+part-none = Steps.part-none
 
 -- ---- 01: "the comment ends at the first star that a slash follows; comments do not nest"
 module _ (s : List ℕ) (o : ℕ) where

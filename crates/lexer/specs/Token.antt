@@ -145,6 +145,24 @@ textOf DoubleBar = none
 textOf Comma = none
 textOf End = none
 
+-- whether a token is the Comma
+unfoldable pub isComma : Kind → Bool
+isComma Name = false
+isComma Variable = false
+isComma String = false
+isComma Number = false
+isComma Open = false
+isComma OpenCT = false
+isComma Close = false
+isComma OpenList = false
+isComma CloseList = false
+isComma OpenCurly = false
+isComma CloseCurly = false
+isComma HeadTailSeparator = false
+isComma DoubleBar = false
+isComma Comma = true
+isComma End = false
+
 unfoldable pub plainLexeme : ℕ → Plain → Lexeme
 plainLexeme at (Whole k v e) = lexeme (token k v at) e (textOf k)
 plainLexeme at (Refused w) = refused w

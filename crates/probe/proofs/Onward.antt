@@ -1,17 +1,16 @@
 -- A token that the lexer hands out moves the cursor on, within the text, and so does a clause: why a run of calls ends. Assumes nothing.
 use Prim.Native.Nat.{ℕ, zero, suc, _-_, _<_, _≤_}
-use mathlib.Core.Path.{_≡_, refl}
+use mathlib.Core.Path.{_≡_, refl, sym, _∙_}
 use mathlib.Core.Bool.{Bool, true, false, cond}
 use mathlib.Core.List.{List, [], _∷_}
 use native.Mathlib.Omega.{arith}
 use lib.ListN.{length}
-use Rattle.lexer.specs.Cursor.{valid, moveTo}
-use Rattle.lexer.specs.Token.{Lexeme, lexeme, refused, readLexeme, answered, nextToken}
+use Rattle.lexer.specs.Cursor.{moveTo}
+use Rattle.lexer.specs.Token.{Lexeme, lexeme, refused, readLexeme, nextToken}
 use Rattle.lexer.specs.declared.cursor.Cursor.{Cursor}
 use Rattle.lexer.specs.declared.token.Answer.{Answer}
 use Rattle.lexer.specs.declared.token.Token.{Token}
-use Rattle.lexer.proofs.Cursors.{is-valid, move-offset}
-use Rattle.lexer.proofs.Promises.{lexeme-ends}
+use Rattle.lexer.proofs.Theorems.{token-promises, lexeme-bounds, is-valid, move-offset}
 use Rattle.probe.specs.Nearer.{Nearer}
 use Rattle.reader.specs.Clause as K
 use Rattle.reader.specs.Token as R
@@ -21,24 +20,9 @@ record Onward (s : List ℕ) (c n : Cursor) : Type 0 where
   pub ahead : c .offset < n .offset
   pub inside : n .offset ≤ length s
 
-module _ (s : List ℕ) (c n : Cursor) (t : Token) where
-  of-lexeme : c .offset ≤ length s → (x : Lexeme) → readLexeme false s (c .offset) ≡ x → answered s c x ≡ Answer.Read t n → Onward s c n
-  unfolding answered
-  of-lexeme h (refused w) e g = let z : _≡_ {A = ℕ} 0 1 = cc in absurd (omega arith)
-  of-lexeme h (lexeme u e x) f g =
-      let k = lexeme-ends false s (c .offset) u e x h f in
-      let m : moveTo s c e ≡ n = cc in
-      let o = move-offset s c e (omega arith) (k .inside) in
-      let q : n .offset ≡ e = cc in
-      record { ahead = omega arith; inside = omega arith }
-
-  of-answer : (v : Bool) → valid (length s) c ≡ v → nextToken s c ≡ Answer.Read t n → Onward s c n
-  of-answer false v e = let z : _≡_ {A = ℕ} 0 1 = cc in absurd (omega arith)
-  of-answer true v e = of-lexeme (is-valid (length s) c v .offset) (readLexeme false s (c .offset)) refl (cc)
-
-  -- less lies behind the new cursor than behind the old one
-  pub nearer : (a : Answer) → a ≡ nextToken s c → a ≡ Answer.Read t n → length s - n .offset < length s - c .offset
-  nearer a e g = let o = of-answer (valid (length s) c) refl (cc) in omega arith
+-- less lies behind the new cursor than behind the old one
+pub nearer : (s : List ℕ) (c n : Cursor) (t : Token) (a : Answer) → a ≡ nextToken s c → a ≡ Answer.Read t n → length s - n .offset < length s - c .offset
+nearer s c n t a e g = let p = token-promises s c t n (sym e ∙ g) in omega (arith, p .further, p .inside)
 
 -- ---- clauses
 module _ (s : List ℕ) where
@@ -69,7 +53,7 @@ module _ (s : List ℕ) where
   unfolding K.onward
   behind-lexeme next go c h ts e (refused w) f g = let z : _≡_ {A = ℕ} 0 1 = cc in absurd (omega arith)
   behind-lexeme next go c h ts e (lexeme t u x) f g =
-      let k = lexeme-ends false s (c .offset) t u x h f in
+      let k = lexeme-bounds false s (c .offset) t u x h f in
       let o = move-offset s c u (omega arith) (k .inside) in
       behind-token c (moveTo s c u) e ts (omega arith) (omega arith) (K.tokenIn s t u x) next go (K.isEnd (t .kind)) g
 

@@ -20,7 +20,6 @@ pub mod Sights
 pub mod Turns
 pub mod Runs
 pub mod Chains
-pub mod Commas
 pub mod Indexes
 pub mod LineSpecimens
 pub mod Lines

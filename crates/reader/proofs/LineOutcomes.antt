@@ -14,7 +14,7 @@ use Rattle.lexer.specs.Refusal.{fault}
 use Rattle.lexer.specs.Token.{notValid}
 use Rattle.lexer.specs.declared.cursor.Cursor.{Cursor}
 use Rattle.lexer.specs.declared.refusal.Refusal.the-variants.{NoRoom, TooManyTokens, NoReading}
-use Rattle.lexer.proofs.Cursors.{is-valid}
+use Rattle.lexer.proofs.Theorems.{is-valid}
 use Rattle.reader.specs.Token.{Token, terminals}
 use Rattle.reader.specs.Ops.{operators}
 use Rattle.reader.specs.Tree.{Tree}

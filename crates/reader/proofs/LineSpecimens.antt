@@ -3,11 +3,12 @@ use Prim.Native.Nat.{ℕ}
 use Prim.Native.String.{String}
 use mathlib.Core.Path.{_≡_, refl}
 use mathlib.Core.List.{List, [], _∷_}
+use Rattle.lexer.specs.Token.{isComma}
 use Rattle.reader.specs.Token.{Token}
 use Rattle.reader.specs.Ops.{spell, operators}
 use Rattle.reader.specs.Tree.{call, list, listTail, curly, emptyList, emptyCurly, Tree, node, nil, _◂_}
 use Rattle.reader.specs.Grammar.{Reads}
-use Rattle.reader.specs.Listing.{shapeOf, isComma, spelled, back, lastSeparator, separator, front, printed, joined, others, line}
+use Rattle.reader.specs.Listing.{shapeOf, spelled, back, lastSeparator, separator, front, printed, joined, others, line}
 use Rattle.reader.specs.Machine.{State}
 use Rattle.reader.proofs.Specimens.{behind, Of, All, all, Test, found, test, tested, machine, accepting, reads, computes, one, two, x, minus}
 

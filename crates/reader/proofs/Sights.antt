@@ -11,9 +11,7 @@ use Rattle.lexer.specs.Token.{Text, Lexeme, lexeme, refused, readLexeme, answer
 use Rattle.lexer.specs.declared.cursor.Cursor.{Cursor}
 use Rattle.lexer.specs.declared.token.Token as lexer
 use Rattle.lexer.specs.declared.token.Answer.{Answer}
-use Rattle.lexer.proofs.Calls.{read-promises}
-use Rattle.lexer.proofs.Cursors.{move-offset}
-use Rattle.lexer.proofs.Promises.{lexeme-ends}
+use Rattle.lexer.proofs.Theorems.{token-promises, lexeme-bounds, move-offset}
 use Rattle.reader.specs.Token.{Kind, terminalAs}
 use Rattle.reader.specs.Ops.{Pre, fx, fy, Inf, xfx, xfy, yfx, operators}
 use Rattle.reader.specs.Roles.{prefixRole, infixRole}
@@ -41,8 +39,8 @@ module _ (s : List ℕ) (c : Cursor) (t : lexer.Token) (d : Cursor) where
       go true (lexeme u e x) v f g =
           let same : u ≡ t = cc in
           let moved : d ≡ moveTo s c e = cc in
-          let p = read-promises false s c t d r in
-          let b = lexeme-ends false s (c .offset) u e x (p .from .offset) f in
+          let p = token-promises s c t d r in
+          let b = lexeme-bounds false s (c .offset) u e x (p .from .offset) f in
           let ends : d .offset ≡ e = ap (λ (k : Cursor). k .offset) moved ∙ move-offset s c e (omega (arith, b .behind, b .ahead)) (b .inside) in
           record { valid-cursor = v; text = x; reads = cc (f, same, ends); next = moved ∙ ap (moveTo s c) (sym ends); ahead = p .ahead; inside = p .inside }
       go true (refused w) v f g = let z : _≡_ {A = ℕ} 0 1 = cc in absurd (omega arith)

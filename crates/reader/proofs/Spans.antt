@@ -8,16 +8,15 @@ use lib.Dec.{eqb}
 use lib.ListN.{length, getD, take, length-append}
 use Rattle.lexer.specs.Chars.{comma}
 use Rattle.lexer.specs.Cursor.{valid, moveTo, Valid}
-use Rattle.lexer.specs.Token.{Text, Lexeme, lexeme, refused, readLexeme, answered, nextToken}
+use Rattle.lexer.specs.Token.{Text, Lexeme, lexeme, refused, isComma, readLexeme, answered, nextToken}
 use Rattle.lexer.specs.declared.cursor.Cursor.{Cursor}
 use Rattle.lexer.specs.declared.token.Token as lexer
 use Rattle.lexer.specs.declared.token.Answer.{Answer}
-use Rattle.lexer.proofs.Calls.{read-promises}
+use Rattle.lexer.proofs.Theorems.{token-promises, comma-starts}
 use Rattle.reader.specs.Token.{Token, Tok, terminals}
 use Rattle.reader.specs.Clause.{tokenIn, isEnd, Gathered, whole, stopped, tooMany, with, onward, gather}
-use Rattle.reader.specs.Listing.{isComma, tokenAt}
+use Rattle.reader.specs.Listing.{tokenAt}
 use Rattle.reader.proofs.Chains.{Chain, none, more}
-use Rattle.reader.proofs.Commas.{commas}
 use Rattle.reader.proofs.Sights.{Known, known}
 use Rattle.reader.proofs.Turns.{answered-there}
 
@@ -64,7 +63,7 @@ module _ (s : List ℕ) (c : Cursor) (t : lexer.Token) (d : Cursor) (k : Known s
   its-token = tokenIn s t (d .offset) (k .text)
 
   told-known : (ts : List Token) → Told s ts → Told s (tokenIn s t (d .offset) (k .text) ∷ ts)
-  told-known ts r zero l = commas s t (d .offset) (k .text) (c .offset) (k .reads)
+  told-known ts r zero l = comma-starts false s (c .offset) t (d .offset) (k .text) (k .reads)
   told-known ts r (suc i) l = r i (omega arith)
 
   gather-known : gather (suc n) s c ≡ cond (isEnd (t .kind)) (whole (its-token ∷ []) d) (with its-token (gather n s d))
@@ -113,7 +112,7 @@ module _ (s : List ℕ) (c : Cursor) (v : valid (length s) c ≡ true) (n : ℕ)
       go : (b : Bool) → isEnd (t .kind) ≡ b → Few s c (suc n) ts e
       go true b =
           let k = known s c t d r in
-          let p = read-promises false s c t d r in
+          let p = token-promises s c t d r in
           let m : tokenIn s t (d .offset) (k .text) ∷ [] ≡ ts = cc (gather-end s c t d k n b) in
           let z : d ≡ e = cc (gather-end s c t d k n b) in
           subst (λ (us : List Token). Few s c (suc n) us e) m
@@ -127,7 +126,7 @@ module _ (s : List ℕ) (c : Cursor) (v : valid (length s) c ≡ true) (n : ℕ)
           }))
       go false b =
           let k = known s c t d r in
-          let p = read-promises false s c t d r in
+          let p = token-promises s c t d r in
           let a = tail (tokenIn s t (d .offset) (k .text)) ts e (gather n s d) (sym (gather-on s c t d k n b) ∙ g) in
           let f = next d (p .next-passes) (a .rest) (a .left) in
           subst (λ (us : List Token). Few s c (suc n) us e) (sym (a .same))

@@ -11,7 +11,7 @@ use Rattle.lexer.specs.declared.cursor.Cursor.{Cursor}
 use Rattle.lexer.specs.declared.refusal.Fault.{Fault}
 use Rattle.lexer.specs.declared.token.Token as lexer
 use Rattle.lexer.specs.declared.token.Answer.{Answer}
-use Rattle.lexer.proofs.Calls.{read-promises}
+use Rattle.lexer.proofs.Theorems.{token-promises}
 use Rattle.reader.specs.Token.{Token}
 use Rattle.reader.specs.Tree.{packed}
 use Rattle.reader.specs.Machine as M
@@ -44,7 +44,7 @@ module _ (s : List ℕ) (c : Cursor) (v : valid (length s) c ≡ true) where
   -- the next cursor is valid
   pub next-valid : (t : lexer.Token) (d : Cursor) (e : ℕ) (x : Text) → readLexeme false s (c .offset) ≡ lexeme t e x → d ≡ moveTo s c e → valid (length s) d ≡ true
   unfolding answered
-  next-valid t d e x r m = read-promises false s c t d (answered-there ∙ ap (answered s c) r ∙ ap (Answer.Read t) (sym m)) .next-passes
+  next-valid t d e x r m = token-promises s c t d (answered-there ∙ ap (answered s c) r ∙ ap (Answer.Read t) (sym m)) .next-passes
 
 -- ---- room
 pub length-frames : (st : List ℕ) (d : ℕ) → length (framesOf st d) ≡ d

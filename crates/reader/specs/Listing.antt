@@ -2,14 +2,15 @@
 -- {a}, kinds 8 and 9 as [] and {}." Definitions only.
 use Prim.Native.Nat.{ℕ, _+_, _-_, _*_, _/_, _%_, _<_, _≤_}
 use mathlib.Core.Path.{_≡_}
-use mathlib.Core.Bool.{Bool, true, false, cond}
+use mathlib.Core.Bool.{cond}
 use mathlib.Core.List.{List, [], _∷_, _++_}
 use lib.Dec.{eqb, leb}
 use lib.ListN.{length, getD, take}
 use lib.Seq.{sets}
 use Rattle.lexer.specs.Chars.{singleQuote, openParen, closeParen, comma, openBracket, closeBracket, openBrace, bar, closeBrace}
 use Rattle.lexer.specs.Cursor.{part, longest}
-use Rattle.reader.specs.Token.{Kind, Name, Variable, String, Number, Open, OpenCT, Close, OpenList, CloseList, OpenCurly, CloseCurly, HeadTailSeparator, DoubleBar, Comma, End, Token}
+use Rattle.lexer.specs.Token.{isComma}
+use Rattle.reader.specs.Token.{End, Token}
 use Rattle.reader.specs.Tree.{NodeKind, plain, negative, call, prefix, infx, list, listTail, curly, emptyList, emptyCurly, kindNumber, Tree, node, Forest, nil, _◂_, arity, numbers, numbersAll}
 use Rattle.reader.specs.declared.listing.Shape.{Shape}
 use Rattle.reader.specs.declared.listing.Shape.the-variants.{Word, Negative, Call, Square, Tail, Curly}
@@ -82,24 +83,6 @@ module _ (word : ℕ → ℕ → List ℕ) where
     pub others : ℕ → Forest → List ℕ
     others c nil = []
     others c (t ◂ f) = separator c f ∷ (printed t ++ others c f)
-
--- is it the Comma token
-unfoldable pub isComma : Kind → Bool
-isComma Name = false
-isComma Variable = false
-isComma String = false
-isComma Number = false
-isComma Open = false
-isComma OpenCT = false
-isComma Close = false
-isComma OpenList = false
-isComma CloseList = false
-isComma OpenCurly = false
-isComma CloseCurly = false
-isComma HeadTailSeparator = false
-isComma DoubleBar = false
-isComma Comma = true
-isComma End = false
 
 -- the token of the index; of an index that is none, one with no bytes
 abbrev pub tokenAt : List Token → ℕ → Token

@@ -11,9 +11,7 @@ use Rattle.lexer.specs.Quoted.{bytesOf}
 use Rattle.lexer.specs.Token.{Text, lexeme, readLexeme}
 use Rattle.lexer.specs.declared.cursor.Cursor.{Cursor}
 use Rattle.lexer.specs.declared.token.Token as lexer
-use Rattle.lexer.proofs.Cursors.{is-valid}
-use Rattle.lexer.proofs.Spellings.{NameText, quoted, unquoted, name-text}
-use Rattle.lexer.proofs.Texts.{decoded-at}
+use Rattle.lexer.proofs.Theorems.{NameText, quoted, unquoted, name-spelt, decoded-spelt, is-valid}
 use Rattle.reader.specs.Ops.{operators}
 use Rattle.reader.specs.Roles.{rolesOf}
 use Rattle.reader.specs.Names.{Part}
@@ -29,7 +27,7 @@ module _ (s : List ℕ) (c : Cursor) (t : lexer.Token) (d : Cursor) (r : NameFro
   it = known s c t d (r .reads)
 
   spelt : NameText (getD s (t .start) 0) (it .text)
-  spelt = name-text s false (c .offset) t (d .offset) (it .text) (it .reads) (r .name)
+  spelt = name-spelt false s (c .offset) t (d .offset) (it .text) (it .reads) (r .name)
 
   inside : t .start < length s
   inside = omega (arith, it .ahead, it .inside)
@@ -41,8 +39,7 @@ module _ (s : List ℕ) (c : Cursor) (t : lexer.Token) (d : Cursor) (r : NameFro
       where
         go : {x : Text} → NameText (getD s (t .start) 0) x → readLexeme false s (c .offset) ≡ lexeme t (d .offset) x → QuotedAt s (t .start)
         go (quoted bs e) f =
-            let k = decoded-at s false (c .offset) t (d .offset) bs f in
-            record { inside = inside; short = is-valid (length s) c (it .valid-cursor) .short; bytes = bs; end = d .offset; decodes = k .reads }
+            record { inside = inside; short = is-valid (length s) c (it .valid-cursor) .short; bytes = bs; end = d .offset; decodes = decoded-spelt false s (c .offset) t (d .offset) bs f }
         go (unquoted n) f = absurd (n q)
 
     its-text : quotedBytes s (t .start) ≡ tokenFrom s c .text
@@ -50,7 +47,7 @@ module _ (s : List ℕ) (c : Cursor) (t : lexer.Token) (d : Cursor) (r : NameFro
     its-text = go spelt (it .reads)
       where
         go : {x : Text} → NameText (getD s (t .start) 0) x → readLexeme false s (c .offset) ≡ lexeme t (d .offset) x → quotedBytes s (t .start) ≡ tokenFrom s c .text
-        go (quoted bs e) f = ap bytesOf (decoded-at s false (c .offset) t (d .offset) bs f .reads) ∙ sym (ap (λ l. tokenOf s l .text) f)
+        go (quoted bs e) f = ap bytesOf (decoded-spelt false s (c .offset) t (d .offset) bs f) ∙ sym (ap (λ l. tokenOf s l .text) f)
         go (unquoted n) f = absurd (n q)
 
     its-roles : (x : Roles) → x ≡ rolesOf operators (quotedBytes s (t .start)) → x ≡ rolesOf operators (tokenFrom s c .text)

@@ -14,7 +14,7 @@ use Rattle.lexer.specs.declared.cursor.Cursor.{Cursor}
 use Rattle.lexer.specs.declared.refusal.Fault.{Fault}
 use Rattle.lexer.specs.declared.token.Token as lexer
 use Rattle.lexer.specs.declared.token.Answer.{Answer}
-use Rattle.lexer.proofs.Calls.{read-promises}
+use Rattle.lexer.proofs.Theorems.{token-promises}
 use Rattle.reader.specs.Token.{Token}
 use Rattle.reader.specs.Clause.{mostTokens, tokenIn, isEnd, Gathered, whole, stopped, tooMany, with, gather}
 use Rattle.reader.specs.LineCall.{Spanning, Fronts, Spans}
@@ -88,10 +88,10 @@ module _ (s : List ℕ) (c₀ c : Cursor) (i : ℕ) (starts ends : List ℕ) (v 
 
       module _ (t : lexer.Token) (d : Cursor) (f : a ≡ Answer.Read t d) where
         narrow-start : t .start ≤ longest
-        narrow-start = let p = read-promises false s c t d (sym e ∙ f) in omega (arith, p .ahead, p .inside, p .from .short)
+        narrow-start = let p = token-promises s c t d (sym e ∙ f) in omega (arith, p .ahead, p .inside, p .from .short)
 
         narrow-end : d .offset ≤ longest
-        narrow-end = let p = read-promises false s c t d (sym e ∙ f) in omega (arith, p .inside, p .from .short)
+        narrow-end = let p = token-promises s c t d (sym e ∙ f) in omega (arith, p .inside, p .from .short)
 
         it : Token
         it = tokenIn s t (d .offset) (known s c t d (sym e ∙ f) .text)
@@ -131,7 +131,7 @@ module _ (s : List ℕ) (c₀ c : Cursor) (i : ℕ) (starts ends : List ℕ) (v 
                   high = omega arith;
                   spanning =
                       record {
-                        valid-cursor = read-promises false s c t d (sym e ∙ f) .next-passes;
+                        valid-cursor = token-promises s c t d (sym e ∙ f) .next-passes;
                         started = length-set starts i x ∙ v .spanning .started;
                         ended = length-set ends i y ∙ v .spanning .ended;
                       };

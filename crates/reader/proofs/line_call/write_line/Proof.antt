@@ -13,7 +13,7 @@ use Rattle.lexer.specs.Cursor.{valid}
 use Rattle.lexer.specs.Refusal.{fault}
 use Rattle.lexer.specs.declared.cursor.Cursor.{Cursor}
 use Rattle.lexer.specs.declared.refusal.Refusal.the-variants as refusal
-use Rattle.lexer.proofs.Cursors.{is-valid}
+use Rattle.lexer.proofs.Theorems.{is-valid}
 use Rattle.reader.specs.Ops.{operators}
 use Rattle.reader.specs.Token.{Token}
 use Rattle.reader.specs.Clause.{mostTokens, firstOffset}

@@ -2,14 +2,14 @@
 use Prim.Native.Nat.{ℕ, _+_, _-_, _*_, _^_, _<_, _≤_}
 use mathlib.Core.Path.{_≡_, refl, sym, ap, _∙_}
 use mathlib.Core.List.{List, [], _∷_}
+use native.Mathlib.Numerals.{add-one}
 use native.Mathlib.Omega.{arith}
 use borrow.Author.Needs.{needs}
 use mir.Syntax.{w64}
 use mir.Val.{Fits}
 use borrow.Author.Tests.{le-leb, lt-leb}
-use lib.ListN.{length, getD, take, drop, length-drop}
-use lib.Seq.{getD-take, length-take-le}
-use Rattle.lexer.proofs.Steps.{drop-at, drop-end}
+use lib.ListN.{length, getD, take, drop, length-drop, drop-of-length-le}
+use lib.Seq.{drop-cons, getD-take, length-take-le}
 use Rattle.reader.specs.Listing.{shapeAt, lastToken, word, own, ownAll, measured, Source, Node, Nodes, nothing, also, Measurable}
 use Rattle.reader.specs.declared.listing.Listed.the-variants.{Line, NoRoom}
 use Rattle.reader.proofs.listing.line_length.Statement.{statement}
@@ -27,6 +27,10 @@ record Here (tokens : ℕ) (ns : List ℕ) (at : ℕ) : Type 0 where
   second : getD ns (at + 1) 0 ≡ packed
   lies : lastToken (shapeAt packed) token < tokens
   are : Nodes tokens rest
+
+-- the number at an offset, and those behind it
+drop-at : (ns : List ℕ) (at : ℕ) → at < length ns → drop at ns ≡ getD ns at 0 ∷ drop (at + 1) ns
+drop-at ns at h = rw add-one (drop-cons ns at 0 h)
 
 here : {tokens : ℕ} {l : List ℕ} (ns : List ℕ) (at : ℕ) → at < length ns → Nodes tokens l → drop at ns ≡ l → Here tokens ns at
 here ns at h nothing e = absurd (omega (arith, length-drop at ns, ap length e))
@@ -75,8 +79,9 @@ module _ (s starts ends ms : List ℕ) (nodes room end n at : ℕ) (v : Inv s st
 
   done : end ≤ at → Line n ≡ measured room (ownAll (word s starts ends) (take (nodes * 2) ms))
   done h =
+      let k : length (take (nodes * 2) ms) ≤ at = omega (arith, long, v .ended) in
       let z : ownAll (word s starts ends) (drop at (take (nodes * 2) ms)) ≡ 0 =
-      ap (ownAll (word s starts ends)) (drop-end (take (nodes * 2) ms) at (omega (arith, long, v .ended))) ∙ ownNone s starts ends in
+      ap (ownAll (word s starts ends)) (drop-of-length-le (take (nodes * 2) ms) k) ∙ ownNone s starts ends in
       let e : n ≡ ownAll (word s starts ends) (take (nodes * 2) ms) = omega (arith, z, v .sum) in
       cc (e, fitted n room (v .low))
 

@@ -7,7 +7,7 @@ use borrow.Author.Needs.{needs}
 use lib.ListN.{length, getD, set}
 use lib.Seq.{sets, length-sets}
 use Rattle.lexer.specs.Cursor.{part}
-use Rattle.lexer.proofs.Steps.{part-at, part-none}
+use Rattle.lexer.proofs.Theorems.{part-at, part-none}
 use Rattle.reader.specs.Listing.{put, putBefore, SpanRoom}
 use Rattle.reader.proofs.Puts.{set-sets, tell, part-length}
 use Rattle.reader.proofs.listing.put_part.Statement.{statement}
