@@ -1,5 +1,5 @@
 -- Where a comment ends, said of offsets: behind the first star that a slash follows. Assumes nothing.
-use mathlib.Core.Path.{_≡_, refl, sym, _∙_, ap}
+use mathlib.Core.Path.{_≡_, refl, sym, _∙_, ap, subst}
 use mathlib.Core.Bool.{Bool, true, false, cond, _&&_}
 use mathlib.Core.List.{List, [], _∷_}
 use Prim.Native.Nat.{ℕ, zero, suc, _+_, _-_, _<_, _≤_}
@@ -165,3 +165,32 @@ module _ (s : List ℕ) (o : ℕ) where
 
   pub first-mark : (e : ℕ) → commentText s o ≡ Stop e → First s (o + 2) (e - 2)
   first-mark e f = first-from (length s) (o + 2) e (omega arith) f
+
+-- what the text of the comment whose slash is at o comes to, from `at` on: its end, a foreign byte, or neither up to the end of the text
+pub data Came (s : List ℕ) (o at : ℕ) : Scan → Type 0 where
+  ends : (e : ℕ) → Came s o at (Stop e)
+  foreign : (i : ℕ) → i < length s → is foreignByte (getD s i 0) ≡ true → Came s o at (Refused (fault ForeignByte i))
+  unended : Clear s at (length s) → Came s o at (Refused (fault UnclosedComment o))
+
+module _ (s : List ℕ) (o : ℕ) where
+  came-on : (at : ℕ) → (Closes s at → ⊥) → is foreignByte (getD s at 0) ≡ false → {r : Scan} → Came s o (at + 1) r → Came s o at r
+  came-on at n k (ends e) = ends e
+  came-on at n k (foreign i h f) = foreign i h f
+  came-on at n k (unended c) = unended (clear-more s at (length s) n k c)
+
+  came-turned : (at : ℕ) → at < length s → Came s o (at + 1) (close s o (at + 1)) → (strange closes : Bool) → is foreignByte (getD s at 0) ≡ strange → here s at ≡ closes → Came s o at (turned s o at strange closes)
+  unfolding turned
+  came-turned at h r true b k m = foreign at h k
+  came-turned at h r false true k m = ends (at + 2)
+  came-turned at h r false false k m = came-on at (λ c. let g = closed s at c in let z : _≡_ {A = ℕ} 0 1 = cc in omega arith) k r
+
+  came-from : (n at : ℕ) → length s ≤ at + n → Came s o at (close s o at)
+  came-from zero at h = subst (Came s o at) (sym (at-end s o at (omega arith))) (unended (clear-none s at (length s) (omega arith)))
+  came-from (suc n) at h = go (decLt at (length s)) (came-from n (at + 1) (omega arith))
+    where
+      go : Dec (at < length s) → Came s o (at + 1) (close s o (at + 1)) → Came s o at (close s o at)
+      go (no k) r = subst (Came s o at) (sym (at-end s o at (omega arith))) (unended (clear-none s at (length s) (omega arith)))
+      go (yes k) r = subst (Came s o at) (sym (turn s o at k)) (came-turned at k r (is foreignByte (getD s at 0)) (here s at) refl refl)
+
+  pub comment-came : Came s o (o + 2) (commentText s o)
+  comment-came = came-from (length s) (o + 2) (omega arith)

@@ -105,23 +105,28 @@ module _ (s : List ℕ) where
   before-char at (Look.Refused w) f e g = let z : _≡_ {A = ℕ} 0 1 = cc in absurd (omega arith)
   before-char at (Look.Byte x) f e g = look-byte s at x f .inside
 
-  carries : (at : ℕ) (r : Scan) → layoutText s at ≡ r → Carries (λ (at : ℕ) (r : Scan). Before at (length s) r) (length s) at (layoutTurn at r)
-  unfolding layoutTurn
-  carries at (Refused w) f = tt
-  carries at (Stop e) f = go (eqb e at) refl
-    where
-      go : (t : Bool) → eqb e at ≡ t → Carries (λ (at : ℕ) (r : Scan). Before at (length s) r) (length s) at (cond t (stop (Stop at)) (on e same))
-      go true g = (omega arith, before-char at (lookahead s at) refl e f)
-      go false g =
-          let b : (at ≤ e) × (e ≤ length s) = rw f at (layout-text-ends s at) in
-          record {
-            ahead = (let n = eqb-false e at g in omega (arith, n, b .0));
-            inside = b .1;
-            rest = λ r h. further (length s) e at r (b .0) h;
-          }
+  -- what holds of the sequence, by its texts
+  module _ (P : ℕ → Scan → Type 0) (stops : (at e : ℕ) → layoutText s at ≡ Stop e → P at (Stop at)) (refuses : (at : ℕ) (w : Fault) → layoutText s at ≡ Refused w → P at (Refused w))
+      (more : (at e : ℕ) (r : Scan) → at < e → e ≤ length s → P e r → P at r) where
+    carries : (at : ℕ) (r : Scan) → layoutText s at ≡ r → Carries P (length s) at (layoutTurn at r)
+    unfolding layoutTurn
+    carries at (Refused w) f = refuses at w f
+    carries at (Stop e) f = go (eqb e at) refl
+      where
+        go : (t : Bool) → eqb e at ≡ t → Carries P (length s) at (cond t (stop (Stop at)) (on e same))
+        go true g = stops at e f
+        go false g =
+            let b : (at ≤ e) × (e ≤ length s) = rw f at (layout-text-ends s at) in
+            let l : at < e = (let n = eqb-false e at g in omega (arith, n, b .0)) in
+            record { ahead = l; inside = b .1; rest = λ r h. more at e r l (b .1) h }
+
+    pub layout-hold : (at : ℕ) → P at (layoutEnd s at)
+    layout-hold at = items-hold (layoutTexts s) ended s P (nothing-left s) (λ at. carries at (layoutText s at) refl) at
 
   pub layout-ends : (at : ℕ) → Before at (length s) (layoutEnd s at)
-  layout-ends at = items-hold (layoutTexts s) ended s (λ (at : ℕ) (r : Scan). Before at (length s) r) (nothing-left s) (λ at. carries at (layoutText s at) refl) at
+  layout-ends at =
+      layout-hold (λ (at : ℕ) (r : Scan). Before at (length s) r) (λ at e f. (omega arith, before-char at (lookahead s at) refl e f)) (λ at w f. tt)
+      (λ at e r l k h. further (length s) e at r (omega arith) h) at
 
 pub before-between : (lo hi : ℕ) (r : Scan) → Before lo hi r → Between lo hi r
 before-between lo hi (Stop e) h = omega arith

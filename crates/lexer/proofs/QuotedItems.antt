@@ -173,23 +173,31 @@ module _ (s : List ℕ) (at e : ℕ) (h : at < e) where
   spans-limit token (refused w) p = tt
 
 module _ (q token : ℕ) (s : List ℕ) where
-  carries : (at : ℕ) (i : Item) → Ends q s at i → Carries (Spans s) (length s) at (itemTurn token i)
-  unfolding itemTurn
-  carries at (Char b e) p = record { ahead = p .span .ahead; inside = p .span .inside; rest = spans-char s at e (p .span .ahead) b }
-  carries at (Beyond e) p = record { ahead = p .span .ahead; inside = p .span .inside; rest = spans-limit s at e (p .span .ahead) token }
-  carries at (Skip e) p = record { ahead = p .span .ahead; inside = p .span .inside; rest = spans s at e (p .span .ahead) }
-  carries at (Close e) p = p .whole .span
-  carries at (Refused w) p = tt
-
   -- past the end of the text
   past : (at : ℕ) → length s ≤ at → quotedTurn q token s at ≡ stop (unended at)
   unfolding front needed itemTo itemTurn
   past at h = cc (drop-end s at h)
 
+  -- what holds of a quoted token, by its items
+  module _ (P : ℕ → Quoted → Type 0) (closes : (at e : ℕ) → Span s at e → P at (whole [] e)) (refuses : (at : ℕ) (w : Fault) → quotedItem q token s at ≡ Refused w → P at (refused w))
+      (chars : (at e b : ℕ) → Span s at e → (d : Quoted) → P e d → P at (withChar b d)) (limits : (at e : ℕ) → Span s at e → (d : Quoted) → P e d → P at (outOfLimit token d))
+      (skips : (at e : ℕ) → Span s at e → (d : Quoted) → P e d → P at d) where
+    carries : (at : ℕ) (i : Item) → quotedItem q token s at ≡ i → Ends q s at i → Carries P (length s) at (itemTurn token i)
+    unfolding itemTurn
+    carries at (Char b e) f p = record { ahead = p .span .ahead; inside = p .span .inside; rest = chars at e b (p .span) }
+    carries at (Beyond e) f p = record { ahead = p .span .ahead; inside = p .span .inside; rest = limits at e (p .span) }
+    carries at (Skip e) f p = record { ahead = p .span .ahead; inside = p .span .inside; rest = skips at e (p .span) }
+    carries at (Close e) f p = closes at e (p .whole .span)
+    carries at (Refused w) f p = refuses at w f
+
+    pub decode-hold : (at : ℕ) → P at (decode q token s at)
+    decode-hold = items-hold (quotedTurn q token s) unended s P past (λ a. carries a (quotedItem q token s a) refl (item-ends q s a token))
+
   module _ (at : ℕ) where
     pub decode-ends : (bs : List ℕ) (e : ℕ) → decode q token s at ≡ whole bs e → Span s at e
     decode-ends bs e f =
-        rw f at (items-hold (quotedTurn q token s) unended s (Spans s) past (λ a. carries a (quotedItem q token s a) (item-ends q s a token)) at)
+        rw f at (decode-hold (Spans s) (λ a k p. p) (λ a w g. tt) (λ a k b p. spans-char s a k (p .ahead) b) (λ a k p. spans-limit s a k (p .ahead) token)
+        (λ a k p. spans s a k (p .ahead)) at)
 
     -- by the item at its front
     pub decode-refused : (w : Fault) → quotedItem q token s at ≡ Refused w → decode q token s at ≡ refused w

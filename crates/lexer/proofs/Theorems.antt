@@ -31,6 +31,7 @@ use Rattle.lexer.specs.declared.token.Answer.{Answer}
 use Rattle.lexer.proofs.Calls.{start-passes, Promised, read-promises, refused-here}
 use Rattle.lexer.proofs.Commas.{commas}
 use Rattle.lexer.proofs.Cursors as Cursors
+use Rattle.lexer.proofs.Faults.{Placed, refusal-placed, placed-inside}
 use Rattle.lexer.proofs.FirstMark.{Clear, First, first-mark, mark-first, clear-end, clear-foreign}
 use Rattle.lexer.proofs.Promises.{LexemeEnds, lexeme-ends}
 use Rattle.lexer.proofs.Refusals.{all, numbers, number-once}
@@ -178,6 +179,18 @@ refusals-in-order = numbers
 
 pub refusals-apart : (r q : Refusal) → numberOf r ≡ numberOf q → r ≡ q
 refusals-apart = number-once
+
+-- its column "offset": where the token call and the number call point, by the refusal
+module _ (s : List ℕ) (c : Cursor) where
+  pub token-faults : (w : Fault) (back : Cursor) → nextToken s c ≡ Answer.Refused w back → Placed s c w
+  token-faults = refusal-placed s c false
+
+  pub number-faults : (w : Fault) (back : Cursor) → nextNumberToken s c ≡ Answer.Refused w back → Placed s c w
+  number-faults = refusal-placed s c true
+
+  -- that is at most the text's length
+  pub fault-inside : (w : Fault) → Placed s c w → w .offset ≤ length s
+  fault-inside = placed-inside s c
 
 -- ---- 01: the starred specimens "are proved as a single table"
 pub token-specimens : map (λ (r : Answer × Answer). r .0) table ≡ map (λ (r : Answer × Answer). r .1) table
