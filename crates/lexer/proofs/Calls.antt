@@ -6,7 +6,7 @@ use Prim.Native.Nat.{ℕ, _<_, _≤_}
 use native.Mathlib.Omega.{arith}
 use borrow.Author.Tests.{le-leb}
 use lib.ListN.{length}
-use Rattle.lexer.specs.Cursor.{longest, startCursor, moveTo, valid, Valid}
+use Rattle.lexer.specs.Cursor.{longest, startCursor, walk, part, moveTo, valid, Valid}
 use Rattle.lexer.specs.Token.{Lexeme, lexeme, refused, readLexeme, answered, notValid, call}
 use Rattle.lexer.specs.declared.refusal.Fault.{Fault}
 use Rattle.lexer.specs.declared.cursor.Cursor.{Cursor}
@@ -24,6 +24,7 @@ pub record Promised (s : List ℕ) (c : Cursor) (t : Token) (d : Cursor) : Type 
   pub further : c .offset < d .offset
   pub next : Valid (length s) d
   pub next-passes : valid (length s) d ≡ true
+  pub walked : d ≡ walk c (part (c .offset) (d .offset) s)
 
 -- the test of a cursor, from its facts
 passes : (n : ℕ) (c : Cursor) → Valid n c → valid n c ≡ true
@@ -37,6 +38,11 @@ start-passes n h = passes n startCursor (record { short = h; offset = omega arit
 module _ (field : Bool) (s : List ℕ) (c : Cursor) where
   answer : Bool → Lexeme → Answer
   answer b l = cond b (answered s c l) (Answer.Refused notValid c)
+
+  -- a cursor that was moved walked over the bytes up to where it stands
+  over-bytes : (d : Cursor) (e : ℕ) → moveTo s c e ≡ d → e ≡ d .offset → d ≡ walk c (part (c .offset) (d .offset) s)
+  unfolding moveTo
+  over-bytes d e m o = sym m ∙ ap (λ (n : ℕ). walk c (part (c .offset) n s)) o
 
   of-answer : (t : Token) (d : Cursor) (b : Bool) (l : Lexeme) → valid (length s) c ≡ b → readLexeme field s (c .offset) ≡ l → answer b l ≡ Answer.Read t d → Promised s c t d
   unfolding answer answered
@@ -58,6 +64,7 @@ module _ (field : Bool) (s : List ℕ) (c : Cursor) where
         further = omega (arith, p .behind, p .ahead, o);
         next = n;
         next-passes = passes (length s) d n;
+        walked = over-bytes d e m o;
       }
 
   pub read-promises : (t : Token) (d : Cursor) → call field s c ≡ Answer.Read t d → Promised s c t d

@@ -9,7 +9,7 @@ use lib.Ieee.{Float}
 use lib.ListN.{length, getD}
 use denote.Ref.{RefT, ptr, now}
 use Rattle.lexer.specs.Chars.{is, foreignByte, comma}
-use Rattle.lexer.specs.Cursor.{longest, startCursor, part, moveTo, valid, Valid}
+use Rattle.lexer.specs.Cursor.{longest, startCursor, walk, part, moveTo, valid, Valid}
 use Rattle.lexer.specs.Float.{Limits, Scale, scale, over, under, floatValue}
 use Rattle.lexer.specs.Layout.{commentText}
 use Rattle.lexer.specs.Nearest.{Nearest}
@@ -90,6 +90,13 @@ module _ (s : List ℕ) (c : Cursor) where
 
   pub number-promises : (t : Token) (next : Cursor) → nextNumberToken s c ≡ Answer.Read t next → Promised s c t next
   number-promises = read-promises true s c
+
+  -- line and column behind a token are those of the bytes walked over from the cursor
+  pub token-walks : (t : Token) (next : Cursor) → nextToken s c ≡ Answer.Read t next → next ≡ walk c (part (c .offset) (next .offset) s)
+  token-walks t next f = token-promises t next f .walked
+
+  pub number-walks : (t : Token) (next : Cursor) → nextNumberToken s c ≡ Answer.Read t next → next ≡ walk c (part (c .offset) (next .offset) s)
+  number-walks t next f = number-promises t next f .walked
 
   -- the text call reads what the token call reads, the show call hands its text back, and no more of the scratch than that is written
   pub text-promises : (d : List ℕ) (t : Token) (next : Cursor) (p : Part) (x : List ℕ) → nextTokenText s c d ≡ leaves (TextAnswer.Read t next p) x → Told s c d t next p x
