@@ -66,6 +66,8 @@ table =
     -- the readings that a hurried port gets wrong
     ∷ (from 0 "/*/", refused UnclosedComment 0)
     ∷ (from 1 "X=/*c*/Y", read 1 4 Name Nothing)
+    -- March: an opening mark inside a comment does not nest
+    ∷ (from 0 "/* /* */ a.", read 9 10 Name Nothing)
     ∷ []
 
 pub specimens : map (λ (r : Answer × Answer). r .0) table ≡ map (λ (r : Answer × Answer). r .1) table
