@@ -81,7 +81,7 @@ valid-coincides n c = coincide (valid n c)
 pub start-valid : (n : ℕ) → n ≤ longest → valid n startCursor ≡ true
 start-valid = start-passes
 
--- ---- what the clause reader relies on
+-- ---- what an answer promises whoever reads on from it
 module _ (s : List ℕ) (c : Cursor) where
   -- the text is not too long and the cursor is valid; the token starts at or after the cursor and ends behind its start, within the text, where the new
   -- cursor stands, which is valid and further on
@@ -112,6 +112,8 @@ module _ (s : List ℕ) (c : Cursor) where
   pub text-refused : (d : List ℕ) (w : Fault) (back : Cursor) (x : List ℕ) → nextTokenText s c d ≡ leaves (TextAnswer.Refused w back) x → (back ≡ c) × (x ≡ d)
   text-refused = nothing-left s c
 
+-- ---- what the clause reader relies on, besides `token-promises`
+
 -- what was read from an offset on, by the token call or, where `field`, by the number call: the token t, which ends at e
 module _ (field : Bool) (s : List ℕ) (from : ℕ) (t : Token) (e : ℕ) where
   -- it starts at or after the offset, and ends behind its start, within the text
@@ -126,11 +128,11 @@ module _ (field : Bool) (s : List ℕ) (from : ℕ) (t : Token) (e : ℕ) where
   pub name-spelt : (x : Text) → readLexeme field s from ≡ lexeme t e x → t .kind ≡ Name → NameText (getD s (t .start) 0) x
   name-spelt = name-text s field from t e
 
-  -- a decoded text is that of the quoted item behind the token's first byte, which is its quote
+  -- a decoded text is what the quoted item behind the token's first byte, its quote, stands for
   pub decoded-spelt : (bs : List ℕ) → readLexeme field s from ≡ lexeme t e (decoded bs) → decode (getD s (t .start) 0) (t .start) s (t .start + 1) ≡ Quoted.whole bs e
   decoded-spelt bs f = decoded-at s field from t e bs f .reads
 
--- 01: what it is for a cursor to be valid, as facts
+-- what the test of a cursor tells
 pub is-valid : (n : ℕ) (c : Cursor) → valid n c ≡ true → Valid n c
 is-valid = Cursors.is-valid
 
