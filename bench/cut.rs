@@ -1,6 +1,6 @@
 //! Cuts Prolog text into clauses that both read alike, and joins them to texts of a wanted size.
 use crate::model::LONGEST_TEXT;
-use crate::thrinvage::{self, Cursor, Kind, LARGEST_TREE, Refusal};
+use crate::thrinvage::{self, Cursor, Kind, Refusal, TREE_NUMBERS};
 use oracle::api::{END_OF_FILE, Machine};
 
 const END_OF_TEXT: u32 = 1;
@@ -86,7 +86,7 @@ fn read_alike(text: &[u8], machine: &mut Machine) -> Option<Vec<Kind>> {
 
 /// Whether the clause call takes the clause.
 pub fn is_of_the_grammar(clause: &Clause) -> bool {
-    thrinvage::read_clause(clause, Cursor::default(), &mut [0; LARGEST_TREE]).is_ok()
+    thrinvage::read_clause(clause, Cursor::default(), &mut [0; TREE_NUMBERS]).is_ok()
 }
 
 /// Texts of at most `size` bytes and at least half as many. A clause that does not fit starts the next text, but is left out while

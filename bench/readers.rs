@@ -1,11 +1,9 @@
 //! What is timed: four ways to read a text from its start to its end.
 use crate::cut::Batch;
 use crate::model::LONGEST_TEXT;
-use crate::thrinvage::{self, Cursor, LARGEST_TREE, Part, Refusal, Scanner};
+use crate::thrinvage::{self, Cursor, NO_TEXT, Part, Refusal, Scanner, TREE_NUMBERS};
 use oracle::api::Machine;
 use std::hint::black_box;
-
-const NO_TEXT: u32 = 12;
 
 pub enum Reader {
     TokenCall,
@@ -24,7 +22,7 @@ impl Reader {
     }
 
     pub fn clause_call() -> Reader {
-        Reader::ClauseCall { tree: vec![0; LARGEST_TREE] }
+        Reader::ClauseCall { tree: vec![0; TREE_NUMBERS] }
     }
 
     pub fn rust() -> Reader {

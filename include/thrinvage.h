@@ -1,21 +1,28 @@
 /* The Prolog reader, for C: bytes in; tokens, or a clause's tree or line, out.
  *
- * Each function is proved, for every argument, to answer as the call of the library that its name says (crates/ffi/src/lib.rt); what that
- * answer is stands in docs/CLAIMS.md. It allocates nothing and keeps nothing between two calls.
+ * Each function of the archive is proved, for every argument, to answer as the call of the library that its name says (crates/ffi_token, ffi_clause and
+ * ffi); what that answer is stands in docs/CLAIMS.md. It allocates nothing, keeps nothing between two calls and writes only what it is lent, so several
+ * threads may call at once.
  *
  * What a caller owes is what C's types do not say: a pointer with a length points to that many elements (it may be null where the length is
  * 0), a pointer to a struct points to one, what the function writes overlaps nothing else that it is given, and nothing is changed meanwhile.
  *
- * A program that prints the kind and the span of each token of a text:
+ * A program that lists the clauses of standard input, and says whether the last one was cut off:
  *
  *     #include <stdio.h>
- *     #include <string.h>
  *     #include "thrinvage.h"
  *     int main(void) {
- *         const char *text = "wind(N) :- N > 8. ";
- *         struct thrinvage_token t = {0};
- *         while (thrinvage_next_token((const uint8_t *)text, strlen(text), t.offset, t.line, t.column, &t) == 0)
- *             printf("%d %d..%d\n", (int)t.kind, (int)t.start, (int)t.offset);
+ *         static uint8_t text[THRINVAGE_LONGEST_TEXT + 1]; // one more: a longer text is refused, and not cut short
+ *         static uint8_t line[THRINVAGE_LINE_BYTES];
+ *         size_t length = fread(text, 1, sizeof text, stdin);
+ *         struct thrinvage_clause c = {0};
+ *         uint32_t number;
+ *         while ((number = thrinvage_list_clause(text, length, c.offset, c.line, c.column, line, sizeof line, &c)) == THRINVAGE_READ)
+ *             printf("%.*s\n", (int)c.count, (const char *)line);
+ *         if (number != THRINVAGE_END_OF_TEXT)
+ *             printf("refused %d at %d\n", (int)number, (int)c.refused_at);
+ *         else
+ *             puts(thrinvage_only_layout(text, length, c.offset) ? "whole" : "cut off");
  *         return 0;
  *     }
  */
@@ -28,6 +35,14 @@
 #ifdef __cplusplus
 extern "C" {
 #endif
+
+/* The longest text, in bytes, and the most tokens of a clause, its end mark among them. */
+#define THRINVAGE_LONGEST_TEXT 65535
+#define THRINVAGE_MOST_TOKENS 1024
+
+/* Room that always serves: numbers for a clause's tree, and bytes for its line. A scratch of THRINVAGE_LONGEST_TEXT bytes always serves too. */
+#define THRINVAGE_TREE_NUMBERS 2048
+#define THRINVAGE_LINE_BYTES 70650
 
 /* What a function returns: 0 where it read what it was asked for, else the number of the refusal. The offset that a refusal points at is
  * put in the struct's field `refused_at`, and nothing else is written: the struct's other fields stay, and so do a lent scratch, tree or line. */
@@ -51,14 +66,16 @@ enum thrinvage_refusal {
  * integer without the point, are at most 9,007,199,254,740,992, to be multiplied by ten to the power of -22 to 22.
  * A cursor is valid for refusal 8 if its offset is at most the text's length, and its line and its column are at most its offset. */
 
-/* A token's field `kind`. */
+/* A token's field `kind`. Whether `(` is OPEN or OPEN_CT hangs on what the call passed over, and on nothing before the cursor: at a cursor that was
+ * put into the middle of layout by hand, a `(` that stands right there is OPEN_CT, and one behind more layout is OPEN. So it is with a `(` right behind
+ * the newline that an end mark took. */
 enum thrinvage_kind {
     THRINVAGE_NAME = 0,
     THRINVAGE_VARIABLE = 1,
     THRINVAGE_STRING = 2,
     THRINVAGE_NUMBER = 3,
-    THRINVAGE_OPEN = 4,    /* `(` after layout */
-    THRINVAGE_OPEN_CT = 5, /* `(` right after what is before it */
+    THRINVAGE_OPEN = 4,    /* `(` behind layout or a comment that this call passed over */
+    THRINVAGE_OPEN_CT = 5, /* `(` right at the cursor */
     THRINVAGE_CLOSE = 6,
     THRINVAGE_OPEN_LIST = 7,
     THRINVAGE_CLOSE_LIST = 8,
@@ -131,21 +148,51 @@ uint32_t thrinvage_next_token(const uint8_t *text, size_t length, size_t offset,
 uint32_t thrinvage_next_number_token(const uint8_t *text, size_t length, size_t offset, size_t line, size_t column, struct thrinvage_token *token);
 
 /* The next token and its decoded text. A quoted item is decoded to the front of the scratch, which has `room` bytes; a name or a variable
- * that is not quoted stays in the text, and nothing is written to the scratch. A decoded text is never longer than its source: 65,535 bytes are
- * always enough. */
+ * that is not quoted stays in the text, and nothing is written to the scratch. A decoded text is never longer than its source. */
 uint32_t thrinvage_next_token_text(const uint8_t *text, size_t length, size_t offset, size_t line, size_t column, uint8_t *scratch, size_t room,
                                    struct thrinvage_token_text *token);
 
 /* The tokens up to an end mark, as a tree: children left to right, then their parent, the root last; two numbers a node, the index of its
- * token in the clause, from 0, and its kind times 1,024 plus the count of its children. `room` counts numbers: 2,048 are always enough. */
+ * token in the clause, from 0, and its kind times 1,024 plus the count of its children. `room` counts numbers. examples/c/tree.c walks a tree. */
 uint32_t thrinvage_read_clause(const uint8_t *text, size_t length, size_t offset, size_t line, size_t column, uint16_t *tree, size_t room,
                                struct thrinvage_clause *clause);
 
 /* The same clause as one line of the listing, at the front of `out`, which has `room` bytes. No newline is put behind it, and none stands in it but
- * where a quoted item of the source has one behind a backslash. 70,650 bytes are enough: the spellings of different tokens, and at most five bytes
- * more for each of 1,023 nodes (argued, not proved; a shorter room is refused by 9). */
+ * where a quoted item of the source has one behind a backslash.
+ * It calls itself for a term within a term, some 370 bytes of stack a level: up to 385 KB were measured, at the 1,022 levels that a clause can have. The
+ * other functions take 15 KB at most, whatever they read (docs/FOOTPRINT.md). */
 uint32_t thrinvage_list_clause(const uint8_t *text, size_t length, size_t offset, size_t line, size_t column, uint8_t *out, size_t room,
                                struct thrinvage_clause *clause);
+
+/* Was the last clause cut off? `a. ` and `a. b :- c` both end in refusal 1 at the text's length. Behind the last end mark the first has layout alone, the
+ * second has not. So where the clause or the line call is refused by 1, the text is whole exactly if this function returns 1 at the offset that the call
+ * was made at, which the struct still has. Who reads by the token call asks besides that the last token was an end mark, or that there was none.
+ * A text that was cut between two clauses, in a `%` comment, or behind a dot that then ends a clause (`X is 1.` of `X is 1.5. `) looks whole: only a last
+ * clause that was agreed on, as `end_of_file.`, tells those.
+ *
+ * Returns 1 if nothing but blanks, tabs, newlines and whole comments stands behind the offset, else 0. It is no part of the archive, and is
+ * tested, not proved: examples/run holds it against the token call. */
+static inline int thrinvage_only_layout(const uint8_t *text, size_t length, size_t offset) {
+    while (offset < length) {
+        uint8_t byte = text[offset++];
+        if (byte == ' ' || byte == '\t' || byte == '\n')
+            continue;
+        if (byte == '%') {
+            while (offset < length && text[offset] != '\n')
+                offset++;
+        } else if (byte == '/' && offset < length && text[offset] == '*') {
+            size_t close = offset + 1; /* of the first star that a slash follows */
+            while (close + 1 < length && !(text[close] == '*' && text[close + 1] == '/'))
+                close++;
+            if (close + 1 >= length)
+                return 0;
+            offset = close + 2;
+        } else {
+            return 0;
+        }
+    }
+    return 1;
+}
 
 #ifdef __cplusplus
 }

@@ -1,22 +1,16 @@
 /* Prints what the reader reads.
  *
- *     read tokens|texts|clauses|listing [FILE]    of a file, or of standard input
- *     read number TEXT                            the number in a field
+ *     read tokens|texts|clauses|listing|whole [FILE]    of a file, or of standard input
+ *     read number TEXT                                  the number in a field
  *
  * A line is as the probe (docs/PROBE.md) or the listing program writes it. The last one is the refusal that ended the text: number 1, at the
- * text's length, where all of it was read.
+ * text's length, where all of it was read. `whole` has one line: whether the last clause was cut off.
  */
 #include <inttypes.h>
 #include <stdio.h>
 #include <string.h>
 
 #include "thrinvage.h"
-
-/* One byte more than a text may have: a longer file is refused then, by number 8, and not cut short in silence. */
-#define MOST_BYTES 65536
-/* What is always enough for a clause: numbers for its tree, and bytes for its line. */
-#define LARGEST_TREE 2048
-#define LARGEST_LINE 70650
 
 /* In the order of enum thrinvage_kind. */
 static const char *const KINDS[] = {
@@ -77,7 +71,7 @@ static void print_text(const uint8_t *text, const uint8_t *scratch, const struct
 
 /* The decoded names, variables and strings, a line each. A token that has no text is stepped over by the token call. */
 static void print_texts(const uint8_t *text, size_t length) {
-    static uint8_t scratch[MOST_BYTES]; /* room for any: a decoded text is never longer than its source */
+    static uint8_t scratch[THRINVAGE_LONGEST_TEXT]; /* room for any: a decoded text is never longer than its source */
     struct thrinvage_token_text t = {0};
     struct thrinvage_token *k = &t.token;
     uint32_t number;
@@ -101,10 +95,10 @@ static void print_tree(const uint16_t *tree, uint64_t nodes) {
 }
 
 static void print_clauses(const uint8_t *text, size_t length) {
-    uint16_t tree[LARGEST_TREE];
+    uint16_t tree[THRINVAGE_TREE_NUMBERS];
     struct thrinvage_clause c = {0};
     uint32_t number;
-    while ((number = thrinvage_read_clause(text, length, c.offset, c.line, c.column, tree, LARGEST_TREE, &c)) == THRINVAGE_READ) {
+    while ((number = thrinvage_read_clause(text, length, c.offset, c.line, c.column, tree, THRINVAGE_TREE_NUMBERS, &c)) == THRINVAGE_READ) {
         printf("clause %" PRIu64, c.count);
         print_cursor(c.offset, c.line, c.column);
         putchar('\n');
@@ -114,7 +108,7 @@ static void print_clauses(const uint8_t *text, size_t length) {
 }
 
 static void print_listing(const uint8_t *text, size_t length) {
-    static uint8_t line[LARGEST_LINE];
+    static uint8_t line[THRINVAGE_LINE_BYTES];
     struct thrinvage_clause c = {0};
     uint32_t number;
     while ((number = thrinvage_list_clause(text, length, c.offset, c.line, c.column, line, sizeof line, &c)) == THRINVAGE_READ) {
@@ -124,14 +118,30 @@ static void print_listing(const uint8_t *text, size_t length) {
     printf("refused %" PRIu32 " at %" PRIu64 "\n", number, c.refused_at);
 }
 
+/* Reads all clauses. Where refusal 1 ended the text, nothing but layout stands behind the last of them, or the next one was cut off. */
+static void print_whole(const uint8_t *text, size_t length) {
+    uint16_t tree[THRINVAGE_TREE_NUMBERS];
+    struct thrinvage_clause c = {0};
+    uint32_t number;
+    do
+        number = thrinvage_read_clause(text, length, c.offset, c.line, c.column, tree, THRINVAGE_TREE_NUMBERS, &c);
+    while (number == THRINVAGE_READ);
+    if (number != THRINVAGE_END_OF_TEXT)
+        printf("refused %" PRIu32 " at %" PRIu64 "\n", number, c.refused_at);
+    else if (thrinvage_only_layout(text, length, c.offset))
+        printf("whole\n");
+    else
+        printf("cut off behind %" PRIu64 "\n", c.offset);
+}
+
 static const struct {
     const char *name;
     void (*print)(const uint8_t *text, size_t length);
-} MODES[] = {{"tokens", print_tokens}, {"texts", print_texts}, {"clauses", print_clauses}, {"listing", print_listing}};
+} MODES[] = {{"tokens", print_tokens}, {"texts", print_texts}, {"clauses", print_clauses}, {"listing", print_listing}, {"whole", print_whole}};
 
 /* Reads the file, or standard input where none is named, and prints it in this mode. */
 static int print_file(void (*print)(const uint8_t *text, size_t length), const char *name) {
-    static uint8_t text[MOST_BYTES];
+    static uint8_t text[THRINVAGE_LONGEST_TEXT + 1]; /* one more: a longer file is refused then, by number 8, and not cut short in silence */
     FILE *file = name == NULL ? stdin : fopen(name, "rb");
     size_t length = file == NULL ? 0 : fread(text, 1, sizeof text, file);
     if (file == NULL || ferror(file)) {
@@ -151,6 +161,6 @@ int main(int count, char **words) {
         for (size_t i = 0; i < sizeof MODES / sizeof MODES[0]; i++)
             if (strcmp(words[1], MODES[i].name) == 0)
                 return print_file(MODES[i].print, words[2]);
-    fprintf(stderr, "usage: read tokens|texts|clauses|listing [FILE]\n       read number TEXT\n");
+    fprintf(stderr, "usage: read tokens|texts|clauses|listing|whole [FILE]\n       read number TEXT\n");
     return 2;
 }

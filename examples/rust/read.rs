@@ -1,27 +1,22 @@
 //! Prints what the reader reads.
 //!
 //! ```text
-//! read tokens|texts|clauses|listing [FILE]    of a file, or of standard input
-//! read number TEXT                            the number in a field
+//! read tokens|texts|clauses|listing|whole [FILE]    of a file, or of standard input
+//! read number TEXT                                  the number in a field
 //! ```
 //!
 //! A line is as the probe (docs/PROBE.md) or the listing program writes it. The last one is the refusal that ended the text: number 1, at the
-//! text's length, where all of it was read.
+//! text's length, where all of it was read. `whole` has one line: whether the last clause was cut off.
 mod thrinvage;
 
 use std::env::args;
 use std::fs::File;
 use std::io::{Error, Read, Result, Write, stdin, stdout};
 use std::process::ExitCode;
-use thrinvage::{Cursor, Kind, LARGEST_TREE, Part, Refusal, Token, Value};
-use thrinvage::{list_clause, next_number_token, next_token, next_token_text, read_clause, tokens};
-
-/// One byte more than a text may have: a longer file is refused then, by number 8, and not cut short in silence.
-const MOST_BYTES: usize = 65536;
-/// Bytes that are always enough for a clause's line.
-const LARGEST_LINE: usize = 70650;
-/// The refusal of the text call where the token is no name, variable or string.
-const NO_TEXT: u32 = 12;
+use thrinvage::{Cursor, Kind, LINE_BYTES, LONGEST_TEXT, Part, Refusal, TREE_NUMBERS, Token, Value};
+use thrinvage::{
+    END_OF_TEXT, NO_TEXT, list_clause, next_number_token, next_token, next_token_text, only_layout_behind, read_clause, tokens,
+};
 
 fn kind_name(kind: Kind) -> &'static str {
     match kind {
@@ -96,7 +91,7 @@ fn print_text(out: &mut impl Write, text: &[u8], scratch: &[u8], part: Part) -> 
 
 /// The decoded names, variables and strings, a line each. A token that has no text is stepped over by the token call.
 fn print_texts(out: &mut impl Write, text: &[u8]) -> Result<()> {
-    let mut scratch = vec![0; MOST_BYTES]; // room for any: a decoded text is never longer than its source
+    let mut scratch = vec![0; LONGEST_TEXT]; // room for any: a decoded text is never longer than its source
     let mut at = Cursor::default();
     loop {
         let read = match next_token_text(text, at, &mut scratch) {
@@ -125,7 +120,7 @@ fn print_tree(out: &mut impl Write, tree: &[u16]) -> Result<()> {
 }
 
 fn print_clauses(out: &mut impl Write, text: &[u8]) -> Result<()> {
-    let mut tree = [0; LARGEST_TREE];
+    let mut tree = [0; TREE_NUMBERS];
     let mut at = Cursor::default();
     loop {
         match read_clause(text, at, &mut tree) {
@@ -140,7 +135,7 @@ fn print_clauses(out: &mut impl Write, text: &[u8]) -> Result<()> {
 }
 
 fn print_listing(out: &mut impl Write, text: &[u8]) -> Result<()> {
-    let mut line = vec![0; LARGEST_LINE];
+    let mut line = vec![0; LINE_BYTES];
     let mut at = Cursor::default();
     loop {
         match list_clause(text, at, &mut line) {
@@ -154,13 +149,33 @@ fn print_listing(out: &mut impl Write, text: &[u8]) -> Result<()> {
     }
 }
 
+/// Reads all clauses. Where refusal 1 ended the text, nothing but layout stands behind the last of them, or the next one was cut off.
+fn print_whole(out: &mut impl Write, text: &[u8]) -> Result<()> {
+    let mut tree = [0; TREE_NUMBERS];
+    let mut at = Cursor::default();
+    let refusal = loop {
+        match read_clause(text, at, &mut tree) {
+            Ok(clause) => at = clause.next,
+            Err(refusal) => break refusal,
+        }
+    };
+    if refusal.number != END_OF_TEXT {
+        writeln!(out, "refused {} at {}", refusal.number, refusal.offset)
+    } else if only_layout_behind(text, at) {
+        writeln!(out, "whole")
+    } else {
+        writeln!(out, "cut off behind {}", at.offset)
+    }
+}
+
 fn usage() -> Error {
-    Error::other("usage: read tokens|texts|clauses|listing [FILE]\n       read number TEXT")
+    Error::other("usage: read tokens|texts|clauses|listing|whole [FILE]\n       read number TEXT")
 }
 
 fn read_bytes(file: impl Read) -> Result<Vec<u8>> {
     let mut text = Vec::new();
-    file.take(MOST_BYTES as u64).read_to_end(&mut text)?;
+    // one byte more than a text may have: a longer file is refused then, by number 8, and not cut short in silence
+    file.take(LONGEST_TEXT as u64 + 1).read_to_end(&mut text)?;
     Ok(text)
 }
 
@@ -181,6 +196,7 @@ fn run(words: &[&str]) -> Result<()> {
         ["texts", names @ ..] => print_texts(&mut out, &read_text(names)?),
         ["clauses", names @ ..] => print_clauses(&mut out, &read_text(names)?),
         ["listing", names @ ..] => print_listing(&mut out, &read_text(names)?),
+        ["whole", names @ ..] => print_whole(&mut out, &read_text(names)?),
         _ => Err(usage()),
     }
 }

@@ -84,8 +84,18 @@ pub struct Counted {
     pub next: Cursor,
 }
 
-/// As many numbers as a clause's tree can have.
-pub const LARGEST_TREE: usize = 2048;
+/// The longest text, in bytes. A scratch of that length always serves.
+pub const LONGEST_TEXT: usize = 65535;
+/// The most tokens of a clause, its end mark among them.
+pub const MOST_TOKENS: usize = 1024;
+/// Room that always serves for a clause's tree, and for its line.
+pub const TREE_NUMBERS: usize = 2048;
+pub const LINE_BYTES: usize = 70650;
+
+/// The refusal where the text has ended.
+pub const END_OF_TEXT: u32 = 1;
+/// The refusal of the text call where the token is no name, variable or string.
+pub const NO_TEXT: u32 = 12;
 
 #[repr(C)]
 #[derive(Clone, Copy, Default)]
@@ -205,6 +215,30 @@ impl RawClause {
     }
 }
 
+/// Whether nothing but layout stands behind the cursor: blanks, tabs, newlines and whole comments. Where the clause or the line call is refused by 1 at
+/// this cursor, the text is whole exactly if this holds; else its last clause was cut off.
+pub fn only_layout_behind(text: &[u8], at: Cursor) -> bool {
+    let mut rest = text.get(at.offset..).unwrap_or_default();
+    loop {
+        let behind = match rest {
+            [] => return true,
+            [b' ' | b'\t' | b'\n', behind @ ..] => Some(behind),
+            [b'%', comment @ ..] => behind_first(b"\n", comment).or(Some(&[])), // it may end with the text
+            [b'/', b'*', comment @ ..] => behind_first(b"*/", comment),
+            _ => None,
+        };
+        match behind {
+            Some(behind) => rest = behind,
+            None => return false,
+        }
+    }
+}
+
+fn behind_first<'t>(mark: &[u8], text: &'t [u8]) -> Option<&'t [u8]> {
+    let at = text.windows(mark.len()).position(|part| part == mark)?;
+    Some(&text[at + mark.len()..])
+}
+
 /// Reads a text token by token and keeps the last one where the call put it: the fastest way through a text, since nothing is copied.
 pub struct Scanner<'t> {
     text: &'t [u8],
@@ -225,31 +259,43 @@ impl<'t> Scanner<'t> {
         unless_refused(number, self.raw.refused_at, || ())
     }
 
-    /// The last token; before the first one it is none.
-    pub fn token(&self) -> Token {
-        self.raw.token()
+    /// The last token; none before the first one, when the cursor stands at the text's start.
+    pub fn token(&self) -> Option<Token> {
+        (self.raw.offset > 0).then(|| self.raw.token())
     }
 }
 
-/// The tokens of a text, and last the refusal that ended it: refusal 1 at the text's length where nothing but layout was left.
+/// The tokens of a text, and last the refusal that ended it: refusal 1 at the text's length where all of it was read.
 pub struct Tokens<'t> {
     scanner: Scanner<'t>,
-    ended: bool,
+    ended: Option<Refusal>,
 }
 
 pub fn tokens(text: &[u8]) -> Tokens<'_> {
-    Tokens { scanner: Scanner::new(text), ended: false }
+    Tokens { scanner: Scanner::new(text), ended: None }
+}
+
+impl Tokens<'_> {
+    /// Whether the text was read to its end and no clause of it was cut off: the last token, if there is one, is an end mark, and nothing but layout
+    /// stands behind it.
+    pub fn ended_whole(&self) -> bool {
+        let last = self.scanner.token();
+        let at = last.map_or(Cursor::default(), |token| token.next);
+        self.ended.is_some_and(|refusal| refusal.number == END_OF_TEXT)
+            && last.is_none_or(|token| token.kind == Kind::End)
+            && only_layout_behind(self.scanner.text, at)
+    }
 }
 
 impl Iterator for Tokens<'_> {
     type Item = Result<Token, Refusal>;
 
     fn next(&mut self) -> Option<Self::Item> {
-        if self.ended {
+        if self.ended.is_some() {
             return None;
         }
         let read = self.scanner.advance();
-        self.ended = read.is_err();
-        Some(read.map(|()| self.scanner.token()))
+        self.ended = read.err();
+        Some(read.map(|()| self.scanner.raw.token()))
     }
 }

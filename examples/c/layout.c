@@ -1,0 +1,44 @@
+/* Holds thrinvage_only_layout against the token call, on every text of up to six bytes out of twelve. A newline and a comma are put behind the text:
+ * the comma is then the first token exactly if nothing but layout stands before it. Prints the counts; status 1 says that something differs.
+ */
+#include <stdio.h>
+
+#include "thrinvage.h"
+
+#define LONGEST 6
+static const uint8_t BYTES[] = {' ', '\t', '\n', '%', '/', '*', 'a', '0', '.', '\'', '\\', 128};
+
+static unsigned long texts, of_layout, differ;
+
+static int by_function(const uint8_t *text, size_t length) {
+    struct thrinvage_token t = {0};
+    return thrinvage_next_token(text, length, 0, 0, 0, &t) == THRINVAGE_END_OF_TEXT && thrinvage_only_layout(text, length, 0);
+}
+
+/* Writes two bytes behind the text. */
+static int by_comma(uint8_t *text, size_t length) {
+    struct thrinvage_token t = {0};
+    text[length] = '\n';
+    text[length + 1] = ',';
+    return thrinvage_next_token(text, length + 2, 0, 0, 0, &t) == THRINVAGE_READ && t.start == length + 1;
+}
+
+/* This text, and each that goes on from it. */
+static void try_from(uint8_t *text, size_t length) {
+    int layout = by_comma(text, length);
+    texts++;
+    of_layout += layout;
+    differ += layout != by_function(text, length);
+    if (length < LONGEST)
+        for (size_t i = 0; i < sizeof BYTES; i++) {
+            text[length] = BYTES[i];
+            try_from(text, length + 1);
+        }
+}
+
+int main(void) {
+    uint8_t text[LONGEST + 2];
+    try_from(text, 0);
+    printf("%lu texts, %lu of layout alone, %lu differ\n", texts, of_layout, differ);
+    return differ != 0;
+}

@@ -1,0 +1,69 @@
+//! Holds `only_layout_behind` against the token call, on every text of up to six bytes out of twelve, and `Tokens::ended_whole` too. A newline and a
+//! comma are put behind the text: the comma is then the first token exactly if nothing but layout stands before it, and the token before the comma is an
+//! end mark, or there is none, exactly if the text was whole. Prints the counts; status 1 says that something differs.
+mod thrinvage;
+
+use std::process::ExitCode;
+use thrinvage::{Cursor, END_OF_TEXT, Kind, Scanner, next_token, only_layout_behind, tokens};
+
+const LONGEST: usize = 6;
+const BYTES: &[u8] = b" \t\n%/*a0.'\\\x80";
+
+#[derive(Default)]
+struct Counts {
+    texts: u64,
+    of_layout: u64,
+    differ: u64,
+}
+
+fn by_function(text: &[u8]) -> bool {
+    let start = Cursor::default();
+    next_token(text, start).is_err_and(|refusal| refusal.number == END_OF_TEXT) && only_layout_behind(text, start)
+}
+
+fn by_comma(longer: &[u8]) -> bool {
+    next_token(longer, Cursor::default()).is_ok_and(|token| token.start == longer.len() - 1)
+}
+
+fn whole_by_iterator(text: &[u8]) -> bool {
+    let mut read = tokens(text);
+    read.by_ref().for_each(drop);
+    read.ended_whole()
+}
+
+/// Whether an end mark, or nothing, is the last token before the comma.
+fn whole_by_comma(longer: &[u8]) -> bool {
+    let (mut scanner, mut before) = (Scanner::new(longer), None);
+    while scanner.advance().is_ok() {
+        let token = scanner.token();
+        if token.is_some_and(|token| token.start == longer.len() - 1) {
+            return before.is_none_or(|kind| kind == Kind::End);
+        }
+        before = token.map(|token| token.kind);
+    }
+    false
+}
+
+/// This text, and each that goes on from it.
+fn try_from(text: &mut Vec<u8>, counts: &mut Counts) {
+    let longer = [text, b"\n,".as_slice()].concat();
+    let layout = by_comma(&longer);
+    counts.texts += 1;
+    counts.of_layout += layout as u64;
+    counts.differ += (layout != by_function(text)) as u64;
+    counts.differ += (whole_by_comma(&longer) != whole_by_iterator(text)) as u64;
+    if text.len() < LONGEST {
+        for byte in BYTES {
+            text.push(*byte);
+            try_from(text, counts);
+            text.pop();
+        }
+    }
+}
+
+fn main() -> ExitCode {
+    let mut counts = Counts::default();
+    try_from(&mut Vec::new(), &mut counts);
+    println!("{} texts, {} of layout alone, {} differ", counts.texts, counts.of_layout, counts.differ);
+    ExitCode::from((counts.differ != 0) as u8)
+}
