@@ -171,7 +171,7 @@ uint32_t thrinvage_list_clause(const uint8_t *text, size_t length, size_t offset
  * clause that was agreed on, as `end_of_file.`, tells those.
  *
  * Returns 1 if nothing but blanks, tabs, newlines and whole comments stands behind the offset, else 0. It is no part of the archive, and is
- * tested, not proved: examples/run holds it against the token call. */
+ * tested, not proved: examples/run compares it with the token call. */
 static inline int thrinvage_only_layout(const uint8_t *text, size_t length, size_t offset) {
     while (offset < length) {
         uint8_t byte = text[offset++];

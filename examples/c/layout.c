@@ -1,4 +1,4 @@
-/* Holds thrinvage_only_layout against the token call, on every text of up to six bytes out of twelve. A newline and a comma are put behind the text:
+/* Compares thrinvage_only_layout with the token call, on every text of up to six bytes out of twelve. A newline and a comma are put behind the text:
  * the comma is then the first token exactly if nothing but layout stands before it. Prints the counts; status 1 says that something differs.
  */
 #include <stdio.h>

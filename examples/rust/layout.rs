@@ -1,4 +1,4 @@
-//! Holds `only_layout_behind` against the token call, on every text of up to six bytes out of twelve, and `Tokens::ended_whole` too. A newline and a
+//! Compares `only_layout_behind` with the token call, on every text of up to six bytes out of twelve, and `Tokens::ended_whole` too. A newline and a
 //! comma are put behind the text: the comma is then the first token exactly if nothing but layout stands before it, and the token before the comma is an
 //! end mark, or there is none, exactly if the text was whole. Prints the counts; status 1 says that something differs.
 mod thrinvage;
