@@ -1,5 +1,5 @@
--- What the outcomes come to: of a clause that has a reading no answer but the tree, 9 or 8. Assumes nothing.
-use Prim.Native.Nat.{ℕ, _*_, _≤_}
+-- What the outcomes come to: of a clause that has a reading no answer but the tree, 9 or 8; and an answer that was read stands further on. Assumes nothing.
+use Prim.Native.Nat.{ℕ, _*_, _<_, _≤_}
 use mathlib.Core.Path.{_≡_, _∙_, ap, subst}
 use mathlib.Core.Bool.{true}
 use mathlib.Core.List.{List}
@@ -14,14 +14,18 @@ use Rattle.reader.specs.Token.{Token}
 use Rattle.reader.specs.Ops.{operators}
 use Rattle.reader.specs.Tree.{Tree, numbers}
 use Rattle.reader.specs.Grammar.{Reads}
-use Rattle.reader.specs.Clause.{whole, clauseTokens, Outcome, invalid, token, noMark, noReading, noRoom, read}
+use Rattle.reader.specs.Clause.{mostTokens, whole, clauseTokens, Outcome, invalid, token, noMark, noReading, noRoom, read}
+use Rattle.reader.specs.LineCall as Line
+use Rattle.reader.specs.LineCall.{LineOutcome}
+use Rattle.reader.specs.declared.line_call.LineAnswer.{LineAnswer}
 use Rattle.reader.specs.declared.clause.ClauseAnswer.{ClauseAnswer}
 use Rattle.reader.specs.declared.clause.ClauseAnswer.the-variants.{Read, Refused}
 use Rattle.reader.proofs.Answer.{one-tree}
+use Rattle.reader.proofs.Spans.{gathered-few}
 use Rattle.reader.proofs.Table.{fair, operators-admitted}
 
 module _ (s : List ℕ) (c : Cursor) (d : List ℕ) where
-  -- a clause that has a reading
+  -- ---- a clause that has a reading
   module _ (ts : List Token) (e : Cursor) (t : Tree) (gathered : clauseTokens s c ≡ whole ts e) (reading : Reads operators ts t) where
     -- however its tokens were gathered, that is their reading, and the only one
     its-reading : {us : List Token} {k : Cursor} → clauseTokens s c ≡ whole us k → Reads operators us t
@@ -50,3 +54,17 @@ module _ (s : List ℕ) (c : Cursor) (d : List ℕ) where
     room-reads p h (noReading v g n) = absurd (n t (its-reading g))
     room-reads p h (noRoom {t = u} v g r l) = let q = ap (λ (z : Tree). length (numbers z)) (its-tree u g r) in absurd (omega arith)
     room-reads p h (read {n = n} v g r m l) = (n, cc)
+
+  -- ---- the cursor behind a clause that was read
+
+  abbrev Next : Cursor → Type 0
+  Next e = (valid (length s) e ≡ true) × (c .offset < e .offset) × (e .offset ≤ length s)
+
+  behind : (ts : List Token) (e : Cursor) → valid (length s) c ≡ true → clauseTokens s c ≡ whole ts e → Next e
+  behind ts e v g = let f = gathered-few mostTokens s c ts e v g in (f .next-passes, f .further, f .inside)
+
+  pub behind-clause : {n : ℕ} {e : Cursor} {x : List ℕ} → Outcome s c d (Read n e) x → (valid (length s) e ≡ true) × (c .offset < e .offset) × (e .offset ≤ length s)
+  behind-clause (read {ts} {e} v g r m l) = behind ts e v g
+
+  pub behind-line : {n : ℕ} {e : Cursor} {x : List ℕ} → LineOutcome s c d (LineAnswer.Read n e) x → (valid (length s) e ≡ true) × (c .offset < e .offset) × (e .offset ≤ length s)
+  behind-line (Line.read {ts} {e} v g r l) = behind ts e v g

@@ -90,6 +90,7 @@ pub record Few (s : List ℕ) (c : Cursor) (n : ℕ) (ts : List Token) (e : Curs
   pub chain : Chain (length s) (c .offset) ts
   pub told : Told s ts
   pub further : c .offset < e .offset
+  pub inside : e .offset ≤ length s
   pub next-passes : valid (length s) e ≡ true
 
 -- taken apart
@@ -122,6 +123,7 @@ module _ (s : List ℕ) (c : Cursor) (v : valid (length s) c ≡ true) (n : ℕ)
             chain = more (p .behind) (p .ahead) (none (p .inside));
             told = told-known s c t d k n [] (told-none s);
             further = p .further;
+            inside = p .inside;
             next-passes = p .next-passes;
           }))
       go false b =
@@ -135,6 +137,7 @@ module _ (s : List ℕ) (c : Cursor) (v : valid (length s) c ≡ true) (n : ℕ)
             chain = more (p .behind) (p .ahead) (f .chain);
             told = told-known s c t d k n (a .rest) (f .told);
             further = omega (arith, p .further, f .further);
+            inside = f .inside;
             next-passes = f .next-passes;
           })
 

@@ -30,6 +30,9 @@ pub packed-arity : (k : NodeKind) (a : ℕ) → a < 1024 → packed k a % 1024 �
 unfolding packed
 packed-arity k a h = omega arith
 
+pub packed-both : (k : NodeKind) (a : ℕ) → a < 1024 → (kindOf (packed k a / 1024) ≡ k) × (packed k a % 1024 ≡ a)
+packed-both k a h = (ap kindOf (packed-kind k a h) ∙ kind-of-number k, packed-arity k a h)
+
 pub packed-shape : (k : NodeKind) (a : ℕ) → a < 1024 → shapeAt (packed k a) ≡ shapeOf k
 packed-shape k a h = ap (λ (n : ℕ). shapeOf (kindOf n)) (packed-kind k a h) ∙ ap shapeOf (kind-of-number k)
 

@@ -1,5 +1,6 @@
--- What is proved of the grammar, the machine, for every admitted table, of the clause call and of its line. Statements only: each cites its proof. Assumes nothing.
-use Prim.Native.Nat.{ℕ, _+_, _*_, _≤_, _<_}
+-- What is proved of the grammar, for every admitted table, of the clause call and of its line; last, what speaks of the machine. Statements only: each
+-- cites its proof. Assumes nothing.
+use Prim.Native.Nat.{ℕ, _+_, _*_, _/_, _%_, _≤_, _<_}
 use mathlib.Core.Path.{_≡_}
 use mathlib.Core.Bool.{true}
 use mathlib.Core.Logic.{_⊎_, _↔_}
@@ -14,34 +15,27 @@ use Rattle.lexer.specs.declared.refusal.Refusal.the-variants.{NoReading}
 use Rattle.reader.specs.Token.{Token, Tok, sameText}
 use Rattle.reader.specs.Ops.{Table, operators}
 use Rattle.reader.specs.Admitted.{admits}
-use Rattle.reader.specs.Tree.{Tree, packed, numbers}
+use Rattle.reader.specs.Tree.{NodeKind, Tree, packed, numbers}
 use Rattle.reader.specs.Grammar.{Clause, Reads}
 use Rattle.reader.specs.Machine.{Out, done, run, start, answer, Numbered}
-use Rattle.reader.specs.Clause.{whole, clauseTokens, Outcome}
+use Rattle.reader.specs.Clause.{mostTokens, whole, clauseTokens, Outcome}
+use Rattle.reader.specs.Listing.{Within, kindOf}
 use Rattle.reader.specs.LineCall.{LineOutcome}
 use Rattle.reader.specs.declared.clause.ClauseAnswer.{ClauseAnswer}
 use Rattle.reader.specs.declared.line_call.LineAnswer.{LineAnswer}
 use Rattle.reader.proofs.LineOutcomes.{some-line, one-line}
 use Rattle.reader.proofs.Outcomes.{some-outcome, one-outcome}
-use Rattle.reader.proofs.Permits.{never-no-reading, read-tree, room-reads}
+use Rattle.reader.proofs.Permits.{never-no-reading, read-tree, room-reads, behind-clause, behind-line}
+use Rattle.reader.proofs.Indexes.{reads-within}
+use Rattle.reader.proofs.Terms.{packed-both}
 use Rattle.reader.proofs.Table.{same-exactly, fair, operators-admitted}
 use Rattle.reader.proofs.Answer.{answer-complete, answer-sound, one-tree, reads?, tree-small}
 use Rattle.reader.proofs.Specimens.{Holds, All, table, specimens}
+use Rattle.reader.proofs.LineSpecimens as Lines
 use Rattle.reader.proofs.Size.{framesIn, nodesIn, words-fit, places-fit, nodes-fit}
 
--- Document 01's table is admitted.
-pub table-admitted : admits operators ≡ true
-table-admitted = operators-admitted
-
+-- ---- the grammar
 module _ (T : Table) (admitted : admits T ≡ true) where
-  -- Completeness: a reading makes the machine accept with that reading's numbers.
-  pub completeness : {ts : List Tok} {t : Tree} → Clause T ts t → answer (run packed T start ts) ≡ some (numbers t)
-  completeness = answer-complete T (fair T admitted)
-
-  -- Soundness: what the machine accepts has a reading with those numbers.
-  pub soundness : (ts : List Tok) (ns : List ℕ) → answer (run packed T start ts) ≡ some ns → (t : Tree) × Clause T ts t × (numbers t ≡ ns)
-  soundness = answer-sound T (fair T admitted)
-
   -- Unambiguity: no clause has two readings.
   pub unambiguity : {ts : List Tok} {t u : Tree} → Clause T ts t → Clause T ts u → t ≡ u
   unambiguity = one-tree T (fair T admitted)
@@ -54,38 +48,29 @@ module _ (T : Table) (admitted : admits T ≡ true) where
   pub size-tree : {ts : List Tok} {t : Tree} → Clause T ts t → length (numbers t) + 2 ≤ 2 * length ts
   size-tree = tree-small T (fair T admitted)
 
--- Size, for any table: after n tokens frames and nodes take n + 1 words at most, and no frame has a greater place number. The 1,024th token is the
--- end mark, or the clause is refused, so arrays of 1,024 serve.
-module _ (T : Table) (ts : List Tok) where
-  pub size-words : length (framesIn (run packed T start ts)) + length (nodesIn (run packed T start ts)) ≤ length ts + 1
-  size-words = words-fit packed T ts
+-- Arity, for any table: in a reading of at most 1,024 tokens every node stands at one of them and has an arity below 1,024.
+pub arity-tree : (T : Table) (ts : List Token) (t : Tree) → length ts ≤ mostTokens → Reads T ts t → Within (length ts) t
+arity-tree = reads-within
 
-  pub size-places : Numbered (length ts + 1) (framesIn (run packed T start ts))
-  size-places = places-fit packed T ts
+-- So a node's second number names its kind and its arity.
+pub kind-and-arity : (k : NodeKind) (a : ℕ) → a < 1024 → (kindOf (packed k a / 1024) ≡ k) × (packed k a % 1024 ≡ a)
+kind-and-arity = packed-both
 
-  pub size-nodes : (out : Out) → run packed T start ts ≡ done out → length out < length ts
-  size-nodes = nodes-fit packed T ts
-
--- Two names are the same exactly if their texts are.
-pub names-by-text : (x y : List ℕ) → (sameText x y ≡ true) ↔ (x ≡ y)
-names-by-text = same-exactly
-
--- Document 01's clause specimens, under its table.
-pub document-01 : All Holds table
-document-01 = specimens
-
--- The clause call: whatever the text, the cursor and the tree slice, one answer and one content of the slice are permitted.
+-- ---- the clause call and its line: the text, the cursor, the slice that is written
 module _ (s : List ℕ) (c : Cursor) (d : List ℕ) where
+  -- One answer and one content of the tree slice are permitted: there is one,
   pub an-outcome : (r : ClauseAnswer) × (x : List ℕ) × Outcome s c d r x
   an-outcome = some-outcome s c d
 
+  -- and two that are permitted coincide.
   pub clause-coincides : {r r′ : ClauseAnswer} {x x′ : List ℕ} → Outcome s c d r x → Outcome s c d r′ x′ → (r ≡ r′) × (x ≡ x′)
   clause-coincides = one-outcome s c d
 
-  -- The line of a clause: the same of the call that lists it.
+  -- The same of the call that lists a clause: there is one,
   pub a-line : (r : LineAnswer) × (x : List ℕ) × LineOutcome s c d r x
   a-line = some-line s c d
 
+  -- and two coincide.
   pub line-coincides : {r r′ : LineAnswer} {x x′ : List ℕ} → LineOutcome s c d r x → LineOutcome s c d r′ x′ → (r ≡ r′) × (x ≡ x′)
   line-coincides = one-line s c d
 
@@ -102,3 +87,53 @@ module _ (s : List ℕ) (c : Cursor) (d : List ℕ) where
     -- and from a valid cursor, with room for its numbers, it is read.
     pub room-suffices : valid (length s) c ≡ true → length (numbers t) ≤ length d → {r : ClauseAnswer} {x : List ℕ} → Outcome s c d r x → (n : ℕ) × (r ≡ ClauseAnswer.Read n e)
     room-suffices = room-reads s c d ts e t gathered reading
+
+  -- The next cursor, behind a clause that was read, is valid, further on, and within the text;
+  pub next-cursor : {n : ℕ} {e : Cursor} {x : List ℕ} → Outcome s c d (ClauseAnswer.Read n e) x → (valid (length s) e ≡ true) × (c .offset < e .offset) × (e .offset ≤ length s)
+  next-cursor = behind-clause s c d
+
+  -- so it is behind a line.
+  pub next-line-cursor : {n : ℕ} {e : Cursor} {x : List ℕ} → LineOutcome s c d (LineAnswer.Read n e) x → (valid (length s) e ≡ true) × (c .offset < e .offset) × (e .offset ≤ length s)
+  next-line-cursor = behind-line s c d
+
+-- ---- names, the table, specimens
+
+-- Two names are the same exactly if their texts are.
+pub names-by-text : (x y : List ℕ) → (sameText x y ≡ true) ↔ (x ≡ y)
+names-by-text = same-exactly
+
+-- Document 01's table is admitted.
+pub table-admitted : admits operators ≡ true
+table-admitted = operators-admitted
+
+-- Document 01's clause specimens, from their bytes, under its table.
+pub document-01 : All Holds table
+document-01 = specimens
+
+-- Its listing, and one line of each kind.
+pub document-01-lines : All Lines.Holds Lines.table
+document-01-lines = Lines.lines
+
+-- ---- what speaks of the machine
+module _ (T : Table) (admitted : admits T ≡ true) where
+  -- Completeness: a reading makes the machine accept with that reading's numbers.
+  pub completeness : {ts : List Tok} {t : Tree} → Clause T ts t → answer (run packed T start ts) ≡ some (numbers t)
+  completeness = answer-complete T (fair T admitted)
+
+  -- Soundness: what the machine accepts has a reading with those numbers.
+  pub soundness : (ts : List Tok) (ns : List ℕ) → answer (run packed T start ts) ≡ some ns → (t : Tree) × Clause T ts t × (numbers t ≡ ns)
+  soundness = answer-sound T (fair T admitted)
+
+-- Size, for any table. The 1,024th token is the end mark, or the clause is refused, so arrays of 1,024 serve.
+module _ (T : Table) (ts : List Tok) where
+  -- After n tokens frames and nodes take n + 1 words at most,
+  pub size-words : length (framesIn (run packed T start ts)) + length (nodesIn (run packed T start ts)) ≤ length ts + 1
+  size-words = words-fit packed T ts
+
+  -- no frame has a greater place number,
+  pub size-places : Numbered (length ts + 1) (framesIn (run packed T start ts))
+  size-places = places-fit packed T ts
+
+  -- and behind a clause there are fewer nodes than tokens.
+  pub size-nodes : (out : Out) → run packed T start ts ≡ done out → length out < length ts
+  size-nodes = nodes-fit packed T ts

@@ -10,12 +10,13 @@ use Rattle.lexer.specs.declared.cursor.Cursor.{Cursor}
 use Rattle.reader.specs.LineCall.{LineOutcome}
 use Rattle.reader.specs.declared.line_call.LineAnswer.{LineAnswer}
 use Rattle.reader.proofs.LineOutcomes.{line-read}
+use Rattle.reader.proofs.Theorems.{next-line-cursor}
 use Rattle.listing.proofs.list_text.Statement.{statement}
 use Rattle.listing.proofs.list_text.Tie as tie
 
 module _ (s : List ℕ) (c : Cursor) (d : List ℕ) (r : LineAnswer) (d′ : List ℕ) (o : LineOutcome s c d r d′) (n : ℕ) (e : Cursor) (h : r ≡ LineAnswer.Read n e) where
   nearer : length s - e .offset < length s - c .offset
-  nearer = let p = line-read s c d r d′ n e o h in omega (arith, p .further, p .inside)
+  nearer = let p = next-line-cursor s c d (rw h at o) in omega (arith, p .1, p .2)
 
 -- the line's room, and one byte for the newline
 record Inv (line₀ line : List ℕ) (room : ℕ) : Type 0 where
