@@ -85,6 +85,11 @@ module _ (s : List ℕ) (at : ℕ) where
       go Foreign q f = let z : _≡_ {A = ℕ} 0 1 = cc in absurd (omega arith)
       go End q f = let z : _≡_ {A = ℕ} 0 1 = cc in absurd (omega arith)
 
+  -- and a byte of some class is found
+  pub byte-look : (b : ℕ) → at < length s → getD s at 0 ≡ b → is foreignByte b ≡ false → lookahead s at ≡ Look.Byte b
+  unfolding needed
+  byte-look b h e f = cc (there false (cc) h)
+
 -- where a peek or a look found a byte, the offset is within the text, and the next one fits
 module _ (s : List ℕ) (at b : ℕ) where
   module _ (r : Peek) (e : r ≡ peek s at) (f : r ≡ Byte b) where

@@ -25,6 +25,7 @@ use Rattle.lexer.specs.declared.cursor.Scan.{Scan}
 use Rattle.lexer.specs.declared.float.Floated.{Floated}
 use Rattle.lexer.specs.declared.kind.Kind.the-variants.{Name}
 use Rattle.lexer.specs.declared.text.Part.{Part}
+use Rattle.lexer.specs.declared.text.QuotedAnswer.{QuotedAnswer}
 use Rattle.lexer.specs.declared.text.TextAnswer.{TextAnswer}
 use Rattle.lexer.specs.declared.token.Token.{Token}
 use Rattle.lexer.specs.declared.token.Answer.{Answer}
@@ -61,9 +62,9 @@ module _ (s : List ℕ) (c : Cursor) where
   pub text-coincides : (d : List ℕ) (a b : TextAnswer) (x y : List ℕ) → leaves a x ≡ nextTokenText s c d → leaves b y ≡ nextTokenText s c d → (a ≡ b) × (x ≡ y)
   text-coincides d a b x y p q = let e = coincide (nextTokenText s c d) (leaves a x) (leaves b y) p q in (cc, cc)
 
--- the bytes of a quoted token: their count, and what is left in the scratch d
-pub quoted-coincides : (s : List ℕ) (at : ℕ) (d : List ℕ) (m n : ℕ) (x y : List ℕ) → counts m x ≡ quotedText s at d → counts n y ≡ quotedText s at d → (m ≡ n) × (x ≡ y)
-quoted-coincides s at d m n x y p q = let e = coincide (quotedText s at d) (counts m x) (counts n y) p q in (cc, cc)
+-- the quoted-text call: its answer, and what it leaves in the scratch d
+pub quoted-coincides : (s : List ℕ) (at : ℕ) (d : List ℕ) (a b : QuotedAnswer) (x y : List ℕ) → counts a x ≡ quotedText s at d → counts b y ≡ quotedText s at d → (a ≡ b) × (x ≡ y)
+quoted-coincides s at d a b x y p q = let e = coincide (quotedText s at d) (counts a x) (counts b y) p q in (cc, cc)
 
 -- the show call: where the part lies, and its bytes
 pub show-coincides : (s d : RefT (List ℕ)) (p : Part) (a b : RefT (List ℕ)) → seen a ≡ shown s d p → seen b ≡ shown s d p → (ptr a ≡ ptr b) × (now a ≡ now b)

@@ -1,21 +1,25 @@
 -- The text call and the show call: 01, "Tokens". Definitions only.
-use Prim.Native.Nat.{ℕ, _+_}
+use Prim.Native.Nat.{ℕ, _+_, _<_, _≤_}
 use mathlib.Core.Path.{_≡_}
 use mathlib.Core.Bool.{false, cond, _&&_}
-use mathlib.Core.List.{List}
-use lib.Dec.{leb, ltb}
-use lib.ListN.{length, getD}
+use mathlib.Core.List.{List, [], _∷_}
+use lib.Dec.{leb}
+use lib.ListN.{length}
 use lib.Seq.{sets}
 use denote.Ref.{RefT, ptr, now}
+use Rattle.lexer.specs.Chars.{among, singleQuote, doubleQuote}
 use Rattle.lexer.specs.Cursor.{longest, part, valid, moveTo, Valid}
+use Rattle.lexer.specs.Look.{lookahead}
 use Rattle.lexer.specs.Quoted.{Quoted, decode}
 use Rattle.lexer.specs.Refusal.{fault}
 use Rattle.lexer.specs.Token.{source, decoded, none, Lexeme, lexeme, refused, readLexeme, notValid, spelledTo, found}
-use Rattle.lexer.specs.declared.refusal.Refusal.the-variants.{NoRoom, NoText}
+use Rattle.lexer.specs.declared.refusal.Refusal.the-variants.{NoToken, NoRoom, NoText}
+use Rattle.lexer.specs.declared.chars.Look.{Look}
 use Rattle.lexer.specs.declared.cursor.Cursor.{Cursor}
 use Rattle.lexer.specs.declared.token.Token.{Token}
 use Rattle.lexer.specs.declared.token.Spelling.{Spelling}
 use Rattle.lexer.specs.declared.text.Part.{Part}
+use Rattle.lexer.specs.declared.text.QuotedAnswer.{QuotedAnswer}
 use Rattle.lexer.specs.declared.text.TextAnswer.{TextAnswer}
 use Rattle.lexer.specs.declared.text.TextAnswer.the-variants.{Read, Refused}
 
@@ -41,18 +45,25 @@ tokenText s c d = textTold s c d (readLexeme false s (c .offset))
 abbrev pub nextTokenText : List ℕ → Cursor → List ℕ → Outcome
 nextTokenText s c d = cond (valid (length s) c) (tokenText s c d) (leaves (Refused notValid c) d)
 
--- a count, and what is left in the scratch
+-- what the quoted-text call answers, and what it leaves in the scratch
 pub data Counted : Type 0 where
-  counts : ℕ → List ℕ → Counted
+  counts : QuotedAnswer → List ℕ → Counted
 
--- the bytes of a quoted token, where there is room for them
-unfoldable pub countedText : List ℕ → Quoted → Counted
-countedText d (Quoted.refused w) = counts 0 d
-countedText d (Quoted.whole bs e) = cond (leb (length bs) (length d)) (counts (length bs) (sets d 0 bs)) (counts 0 d)
+-- the bytes of the quoted token at an offset, decoded to the front of the scratch d; 9 where they do not fit. A refusal leaves the scratch as it was
+unfoldable pub countedText : ℕ → List ℕ → Quoted → Counted
+countedText at d (Quoted.refused w) = counts (QuotedAnswer.Refused w) d
+countedText at d (Quoted.whole bs e) =
+    cond (leb (length bs) (length d)) (counts (QuotedAnswer.Read (length bs)) (sets d 0 bs)) (counts (QuotedAnswer.Refused (fault NoRoom at)) d)
 
--- the quoted token at an offset of a text that is not too long, by itself; the byte there is taken for its quote
+-- by what stands at the offset: 3 for a byte that is neither a single nor a double quote
+unfoldable pub quotedFrom : List ℕ → ℕ → List ℕ → Look → Counted
+quotedFrom s at d (Look.Refused w) = counts (QuotedAnswer.Refused w) d
+quotedFrom s at d (Look.Byte x) =
+    cond (among x (singleQuote ∷ doubleQuote ∷ [])) (countedText at d (decode x at s (at + 1))) (counts (QuotedAnswer.Refused (fault NoToken at)) d)
+
+-- the quoted-text call: the single or double quoted token that begins at an offset; 8 first, for a text that is too long or an offset beyond it
 abbrev pub quotedText : List ℕ → ℕ → List ℕ → Counted
-quotedText s at d = cond (ltb at (length s) && leb (length s) longest) (countedText d (decode (getD s at 0) at s (at + 1))) (counts 0 d)
+quotedText s at d = cond (leb (length s) longest && leb at (length s)) (quotedFrom s at d (lookahead s at)) (counts (QuotedAnswer.Refused notValid) d)
 
 -- a slice as its holder sees it: where it lies, block and offset, and its bytes
 abbrev pub Lent : Type 0
@@ -79,3 +90,8 @@ shown text scratch (Part.Scratch a e) = fitted text scratch a e
 pub record Reads (s : List ℕ) (c : Cursor) (t : Token) (spelling : Spelling) (next : Cursor) : Type 0 where
   pub valid : Valid (length s) c
   pub read : found s c (readLexeme false s (c .offset)) ≡ spelledTo t spelling next
+
+-- and a byte at an offset of a text that is not too long
+pub record Begins (s : List ℕ) (at : ℕ) : Type 0 where
+  pub short : length s ≤ longest
+  pub inside : at < length s

@@ -22,6 +22,7 @@ pub use refusal::Fault;
 pub use refusal::Refusal;
 pub use refusal::refusal_number;
 pub use text::Part;
+pub use text::QuotedAnswer;
 pub use text::TextAnswer;
 pub use text::next_token_text;
 pub use text::quoted_text;

@@ -1,4 +1,6 @@
 // The text call and the show call.
+use crate::chars::Look;
+use crate::chars::lookahead_char;
 use crate::cursor::Cursor;
 use crate::cursor::is_valid;
 use crate::quoted::Measure;
@@ -11,10 +13,12 @@ use crate::token::Spelling;
 use crate::token::Token;
 use crate::token::not_valid;
 use crate::token::read_token;
+ghost use Prim.Native.Nat.{_+_};
 ghost use mathlib.Core.Path.{_≡_};
 ghost use lib.ListN.{length};
 ghost use Rattle.lexer.specs.Cursor.{Valid};
-ghost use Rattle.lexer.specs.Text.{leaves, counts, tokenText, nextTokenText, quotedText, seen, shown, Reads};
+ghost use Rattle.lexer.specs.Quoted.{decode};
+ghost use Rattle.lexer.specs.Text.{leaves, counts, tokenText, nextTokenText, countedText, quotedText, seen, shown, Reads, Begins};
 ghost use Rattle.lexer.specs.declared.token.Spelling.{Spelling};
 
 // A part of the source text, or of the scratch.
@@ -33,6 +37,12 @@ pub enum TextAnswer {
         fault: Fault,
         cursor: Cursor,
     },
+}
+
+// How many bytes the quoted-text call wrote, or why none.
+pub enum QuotedAnswer {
+    Read { length: usize },
+    Refused { fault: Fault },
 }
 
 // A quoted token of `n` bytes: they are decoded to the front of the scratch.
@@ -138,32 +148,57 @@ pub fn next_token_text(text: &[u8], cursor: Cursor, scratch: &mut [u8]) -> TextA
     }
 }
 
-// The bytes that the quoted token at `start` stands for are decoded to the front of the scratch, and counted. Where none ends, or there is not room
-// for its bytes, the scratch stays and the count is 0. For a caller who has read the token: whatever byte stands at `start` is taken for its quote.
-pub fn quoted_text(text: &[u8], start: usize, scratch: &mut [u8]) -> usize
-    ensures { λ r. ⌜ counts r (now (scratch .exit)) ≡ quotedText (now (text .entry)) start (now (scratch .entry)) ⌝ }
+// The quoted token that `quote` begins at `start`: its bytes are decoded to the front of the scratch, where there is room.
+fn quoted_bytes(text: &[u8], start: usize, quote: u8, scratch: &mut [u8]) -> QuotedAnswer
+    requires { ⌜ Begins (now text) start ⌝ }
+    ensures { λ r. ⌜ counts r (now (scratch .exit)) ≡ countedText start (now (scratch .entry)) (decode quote start (now (text .entry)) (start + 1)) ⌝ }
 {
-    if text.len() <= start {
-        return 0;
-    }
     let inside = Cursor {
         offset: start + 1,
         line: 0,
         column: 0,
     };
-    if !is_valid(text.len(), inside) {
-        return 0;
-    }
-    let quote = text[start];
     match measure_quoted(text, inside, quote, start) {
-        Measure::Refused(_) => 0,
+        Measure::Refused(fault) => QuotedAnswer::Refused { fault },
         Measure::Whole { length, next: _ } => {
             if scratch.len() < length {
-                return 0;
+                return QuotedAnswer::Refused {
+                    fault: Fault {
+                        refusal: Refusal::NoRoom,
+                        offset: start,
+                    },
+                };
             }
             write_quoted(text, start + 1, quote, start, length, scratch);
-            length
+            QuotedAnswer::Read { length }
         }
+    }
+}
+
+// The quoted-text call, for a caller who knows where a quoted token begins: its bytes are decoded to the front of the scratch, which a refusal
+// leaves as it was.
+pub fn quoted_text(text: &[u8], start: usize, scratch: &mut [u8]) -> QuotedAnswer
+    ensures { λ r. ⌜ counts r (now (scratch .exit)) ≡ quotedText (now (text .entry)) start (now (scratch .entry)) ⌝ }
+{
+    let here = Cursor {
+        offset: start,
+        line: 0,
+        column: 0,
+    };
+    if !is_valid(text.len(), here) {
+        return QuotedAnswer::Refused { fault: not_valid() };
+    }
+    match lookahead_char(text, start) {
+        Look::Refused(fault) => QuotedAnswer::Refused { fault },
+        Look::Byte(b) => match b {
+            b'\'' | b'"' => quoted_bytes(text, start, b, scratch),
+            _ => QuotedAnswer::Refused {
+                fault: Fault {
+                    refusal: Refusal::NoToken,
+                    offset: start,
+                },
+            },
+        },
     }
 }
 

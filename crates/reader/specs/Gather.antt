@@ -7,6 +7,7 @@ use mathlib.Core.List.{List, [], _∷_}
 use lib.Dec.{eqb, leb}
 use lib.ListN.{length, getD}
 use lib.Seq.{sets}
+use Rattle.lexer.specs.Chars.{singleQuote}
 use Rattle.lexer.specs.Cursor.{longest, valid, moveTo}
 use Rattle.lexer.specs.Quoted.{Quoted, decode, bytesOf}
 use Rattle.lexer.specs.Refusal.{fault}
@@ -59,9 +60,10 @@ pub record NameFrom (s : List ℕ) (c : Cursor) (t : lexer.Token) (d : Cursor) :
 abbrev pub quotedBytes : List ℕ → ℕ → List ℕ
 quotedBytes s at = bytesOf (decode (getD s at 0) at s (at + 1))
 
--- a quoted token at an offset
+-- a quoted name at an offset
 pub record QuotedAt (s : List ℕ) (at : ℕ) : Type 0 where
   pub inside : at < length s
+  pub quote : getD s at 0 ≡ singleQuote
   pub short : length s ≤ longest
   pub bytes : List ℕ
   pub end : ℕ

@@ -6,11 +6,13 @@ use crate::machine::put_tree;
 use crate::machine::start;
 use crate::machine::step;
 use crate::ops::roles_of;
+use crate::roles::NO_ROLES;
 use crate::roles::Roles;
 use lexer::Answer;
 use lexer::Cursor;
 use lexer::Fault;
 use lexer::Kind;
+use lexer::QuotedAnswer;
 use lexer::Refusal;
 use lexer::Token;
 use lexer::is_valid;
@@ -45,8 +47,10 @@ fn quoted_roles(text: &[u8], start: usize) -> Roles
     ensures { λ r. ⌜ r ≡ rolesOf operators (quotedBytes (now (text .entry)) start) ⌝ }
 {
     let mut scratch = [0u8; LONGEST_NAME];
-    let count = quoted_text(text, start, &mut scratch);
-    roles_of(&scratch, 0, count)
+    match quoted_text(text, start, &mut scratch) {
+        QuotedAnswer::Refused { fault: _ } => NO_ROLES,
+        QuotedAnswer::Read { length } => roles_of(&scratch, 0, length),
+    }
 }
 
 // The roles of the name that was read at the cursor. It is quoted exactly if a single quote begins it.

@@ -39,7 +39,7 @@ module _ (s : List ℕ) (c : Cursor) (t : lexer.Token) (d : Cursor) (r : NameFro
       where
         go : {x : Text} → NameText (getD s (t .start) 0) x → readLexeme false s (c .offset) ≡ lexeme t (d .offset) x → QuotedAt s (t .start)
         go (quoted bs e) f =
-            record { inside = inside; short = is-valid (length s) c (it .valid-cursor) .short; bytes = bs; end = d .offset; decodes = decoded-spelt false s (c .offset) t (d .offset) bs f }
+            record { inside = inside; quote = q; short = is-valid (length s) c (it .valid-cursor) .short; bytes = bs; end = d .offset; decodes = decoded-spelt false s (c .offset) t (d .offset) bs f }
         go (unquoted n) f = absurd (n q)
 
     its-text : quotedBytes s (t .start) ≡ tokenFrom s c .text

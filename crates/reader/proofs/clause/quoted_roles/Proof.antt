@@ -2,75 +2,98 @@
 use Prim.Native.Nat.{ℕ, _-_, _<_, _≤_}
 use mathlib.Core.Path.{_≡_, refl, _∙_, ap}
 use mathlib.Core.Bool.{Bool, true, false, cond}
-use mathlib.Core.List.{List, []}
+use mathlib.Core.List.{List}
 use native.Mathlib.Omega.{arith}
 use borrow.Author.Needs.{needs}
-use borrow.Author.Tests.{le-leb, lt-ltb, leb-true, leb-false}
+use borrow.Author.Tests.{le-leb, leb-true, leb-false}
 use lib.Dec.{leb}
 use lib.ListN.{length, take, drop}
 use lib.Seq.{sets, length-sets}
+use Rattle.lexer.specs.Chars.{classOf, singleQuote}
 use Rattle.lexer.specs.Cursor.{longest}
+use Rattle.lexer.specs.Look.{lookahead}
 use Rattle.lexer.specs.Quoted.{Quoted, bytesOf}
-use Rattle.lexer.specs.Text.{counts, countedText, quotedText}
+use Rattle.lexer.specs.Refusal.{fault}
+use Rattle.lexer.specs.Text.{Counted, counts, countedText, quotedFrom, quotedText}
+use Rattle.lexer.specs.declared.chars.Look.{Look}
+use Rattle.lexer.specs.declared.refusal.Fault.{Fault}
+use Rattle.lexer.specs.declared.refusal.Refusal.the-variants.{NoRoom}
+use Rattle.lexer.specs.declared.text.QuotedAnswer.{QuotedAnswer}
+use Rattle.lexer.specs.declared.text.QuotedAnswer.the-variants.{Read, Refused}
+use Rattle.lexer.proofs.Looks.{byte-look}
 use Rattle.reader.specs.Ops.{operators}
 use Rattle.reader.specs.Roles.{rolesOf}
 use Rattle.reader.specs.Names.{Part}
 use Rattle.reader.specs.Gather.{quotedBytes, QuotedAt}
 use Rattle.reader.specs.declared.roles.Roles.{Roles}
-use Rattle.reader.proofs.Finding.{long-name}
+use Rattle.reader.proofs.Finding.{noRoles, long-name}
 use Rattle.reader.proofs.Puts.{sets-front}
 use Rattle.reader.proofs.clause.quoted_roles.Statement.{statement}
 use Rattle.reader.proofs.clause.quoted_roles.Tie as tie
 
--- the bytes bs were to be written to the front of d, which is d′ now, and n were counted
-data Counted (d bs d′ : List ℕ) (n : ℕ) : Type 0 where
-  written : length bs ≤ length d → n ≡ length bs → d′ ≡ sets d 0 bs → Counted d bs d′ n
-  left : length d < length bs → n ≡ 0 → d′ ≡ d → Counted d bs d′ n
+-- the bytes bs were written to the front of d, which is d′ now, and n were counted
+record Written (d bs d′ : List ℕ) (n : ℕ) : Type 0 where
+  room : length bs ≤ length d
+  count : n ≡ length bs
+  left : d′ ≡ sets d 0 bs
 
 module _ (s : List ℕ) (at : ℕ) (q : QuotedAt s at) where
   its-bytes : quotedBytes s at ≡ q .bytes
   unfolding bytesOf
   its-bytes = ap bytesOf (q .decodes)
 
-  told : (d : List ℕ) → quotedText s at d ≡ countedText d (Quoted.whole (q .bytes) (q .end))
-  told d = cc (lt-ltb at (length s) (q .inside), le-leb (length s) longest (q .short), q .decodes)
+  look : lookahead s at ≡ Look.Byte singleQuote
+  unfolding classOf
+  look = byte-look s at singleQuote (q .inside) (q .quote) refl
 
-  module _ (d d′ : List ℕ) (n : ℕ) (f : counts n d′ ≡ quotedText s at d) where
-    counted : Counted d (q .bytes) d′ n
-    unfolding countedText
-    counted = go (leb (length (q .bytes)) (length d)) refl (f ∙ told d)
+  told : (d : List ℕ) → quotedText s at d ≡ countedText at d (Quoted.whole (q .bytes) (q .end))
+  unfolding quotedFrom
+  told d = cc (le-leb (length s) longest (q .short), le-leb at (length s) (omega (arith, q .inside)), look, q .quote, q .decodes)
+
+  module _ (d d′ : List ℕ) (a : QuotedAnswer) (f : counts a d′ ≡ quotedText s at d) where
+    -- the answer, by the room
+    byRoom : Bool → Counted
+    byRoom b = cond b (counts (Read (length (q .bytes))) (sets d 0 (q .bytes))) (counts (Refused (fault NoRoom at)) d)
+
+    by-room : counts a d′ ≡ byRoom (leb (length (q .bytes)) (length d))
+    unfolding countedText byRoom
+    by-room = f ∙ told d
+
+    module _ (n : ℕ) (e : a ≡ Read n) where
+      written : Written d (q .bytes) d′ n
+      unfolding byRoom
+      written = go (leb (length (q .bytes)) (length d)) refl by-room
+        where
+          go : (b : Bool) → leb (length (q .bytes)) (length d) ≡ b → counts a d′ ≡ byRoom b → Written d (q .bytes) d′ n
+          go true l g = record { room = leb-true (length (q .bytes)) (length d) l; count = cc; left = cc }
+          go false l g = let z : _≡_ {A = ℕ} 0 1 = cc in absurd (omega arith)
+
+      there : Part d′ 0 n
+      there =
+          let w = written in
+          let k : length d′ ≡ length d = ap length (w .left) ∙ length-sets d 0 (q .bytes) in
+          record { ahead = omega arith; inside = omega (arith, w .room, w .count) }
+
+      found : (x : Roles) → x ≡ rolesOf operators (take (n - 0) (drop 0 d′)) → x ≡ rolesOf operators (quotedBytes s at)
+      found x g = named written
+        where
+          named : Written d (q .bytes) d′ n → x ≡ rolesOf operators (quotedBytes s at)
+          named w =
+              let k : n - 0 ≡ length (q .bytes) = omega (arith, w .count) in
+              cc (its-bytes, w .left, sets-front d (q .bytes) (w .room))
+
+    -- no operator has more than three bytes
+    no-operator : (w : Fault) → a ≡ Refused w → length d ≡ 3 → noRoles ≡ rolesOf operators (quotedBytes s at)
+    unfolding byRoom
+    no-operator w e l = rw its-bytes (go (leb (length (q .bytes)) (length d)) refl by-room)
       where
-        go : (b : Bool) → leb (length (q .bytes)) (length d) ≡ b → counts n d′ ≡ cond b (counts (length (q .bytes)) (sets d 0 (q .bytes))) (counts 0 d)
-            → Counted d (q .bytes) d′ n
-        go true l g =
-            let k : n ≡ length (q .bytes) = cc in
-            let m : d′ ≡ sets d 0 (q .bytes) = cc in
-            written (leb-true (length (q .bytes)) (length d) l) k m
-        go false l g =
-            let k : n ≡ 0 = cc in
-            let m : d′ ≡ d = cc in
-            left (leb-false (length (q .bytes)) (length d) l) k m
+        go : (b : Bool) → leb (length (q .bytes)) (length d) ≡ b → counts a d′ ≡ byRoom b → noRoles ≡ rolesOf operators (q .bytes)
+        go true k g = let z : _≡_ {A = ℕ} 0 1 = cc in absurd (omega arith)
+        go false k g =
+            let h = leb-false (length (q .bytes)) (length d) k in
+            long-name (q .bytes) (λ z. omega arith) (λ z. omega arith) (λ z. omega arith)
 
-    there : Part d′ 0 n
-    there = go counted
-      where
-        go : Counted d (q .bytes) d′ n → Part d′ 0 n
-        go (written h k m) = let e : length d′ ≡ length d = ap length m ∙ length-sets d 0 (q .bytes) in record { ahead = omega arith; inside = omega arith }
-        go (left h k m) = record { ahead = omega arith; inside = omega arith }
-
-    found : length d ≡ 3 → (x : Roles) → x ≡ rolesOf operators (take (n - 0) (drop 0 d′)) → x ≡ rolesOf operators (quotedBytes s at)
-    found l x g = rw its-bytes (go counted)
-      where
-        go : Counted d (q .bytes) d′ n → x ≡ rolesOf operators (q .bytes)
-        go (written h k m) =
-            let e : n - 0 ≡ length (q .bytes) = omega arith in
-            cc (sets-front d (q .bytes) h)
-        -- no operator has no bytes, or more than three
-        go (left h k m) =
-            let e : n - 0 ≡ 0 = omega arith in
-            cc (long-name [] (λ z. omega arith) (λ z. omega arith) (λ z. omega arith), long-name (q .bytes) (λ z. omega arith) (λ z. omega arith) (λ z. omega arith))
-
-ruleset ways = (there, found, needs)
+ruleset ways = (there, found, no-operator, needs)
 
 -- answers
 slice-aggregate-quoted-text : tie.Need-slice-aggregate-quoted-text
@@ -78,6 +101,12 @@ slice-aggregate-quoted-text c = search ways
 
 quoted-text-requires : tie.Need-quoted-text-requires
 quoted-text-requires c κs = search ways
+
+enum-told : tie.Need-enum-told
+enum-told c = search ways
+
+enum-known-length : tie.Need-enum-known-length
+enum-known-length c = search ways
 
 slice-aggregate-roles-of : tie.Need-slice-aggregate-roles-of
 slice-aggregate-roles-of c = search ways
@@ -88,12 +117,18 @@ roles-of-requires c κs = search ways
 returns : tie.Need-returns
 returns c = search ways
 
+returns-2 : tie.Need-returns-2
+returns-2 c = search ways
+
 pub quoted-roles-spec : {M : Type 1} → statement M
 quoted-roles-spec =
     tie.close
     (tie.spec
     slice-aggregate-quoted-text
     quoted-text-requires
+    enum-told
+    enum-known-length
     slice-aggregate-roles-of
     roles-of-requires
-    returns)
+    returns
+    returns-2)
