@@ -1,5 +1,5 @@
-// Lists the clauses on standard input, a line each, up to the first refusal, which is the last line. What is proved: the program is safe and ends, and
-// each line is the line call's; no contract can say what is read or written.
+// Lists the clauses on standard input, a line each, up to the first refusal, which is the last line. What is proved: the program is safe and ends, each
+// line is the line call's, and the refusal that it ends with is none for room; no contract can say what is read or written.
 use lexer::Cursor;
 use lexer::Fault;
 use lexer::refusal_number;
@@ -9,10 +9,13 @@ use reader::LineAnswer;
 use reader::list_clause;
 ghost use Prim.Native.Nat.{_<_};
 ghost use lib.ListN.{length};
+ghost use Rattle.lexer.specs.Cursor.{startCursor};
+ghost use Rattle.reader.specs.LineCall.{longestLine};
+ghost use Rattle.listing.specs.Ends.{Ends};
 
 // One byte more than a text may have: the first call refuses it then.
 const INPUT: usize = 65536;
-// A line has the spellings of different tokens, and at most five bytes more for each node: quotes of a comma, brackets, and a separator. A newline ends it.
+// No line is longer than 65,535 + 5 * 1,023 bytes (`line-fits` in the reader's proofs/Theorems.antt). A newline ends it.
 const LINE: usize = 65535 + 5 * 1023 + 1;
 
 // The line's bytes in front, and a newline behind them.
@@ -33,9 +36,10 @@ fn write_refusal(fault: Fault) {
     io::write_all(STDOUT_FILENO, b"\n");
 }
 
-// The clauses one after the other. Each cursor stands behind the one before, so a refusal comes.
+// The clauses one after the other. Each cursor stands behind the one before, so a refusal comes; the line has room, so it is not for that.
 fn list_text(text: &[u8], line: &mut [u8]) -> Fault
-    requires { ⌜ 0 < length (now line) ⌝ }
+    requires { ⌜ longestLine < length (now line) ⌝ }
+    ensures { λ r. ⌜ Ends (now (text .entry)) startCursor r ⌝ }
 {
     let mut cursor = Cursor {
         offset: 0,

@@ -21,7 +21,7 @@ pub data Chain (n : ℕ) : ℕ → List Token → Type 0 where
   more : {from : ℕ} {t : Token} {ts : List Token} → from ≤ t .start → t .start < t .end → Chain n (t .end) ts → Chain n from (t ∷ ts)
 
 module _ (n : ℕ) where
-  begins : {from : ℕ} {ts : List Token} → Chain n from ts → from ≤ n
+  pub begins : {from : ℕ} {ts : List Token} → Chain n from ts → from ≤ n
   begins (none h) = h
   begins (more a b c) = let h = begins c in omega arith
 

@@ -13,35 +13,35 @@ use Rattle.reader.specs.Listing.{shapeOf, lastToken, Within, root, Withi
 use Rattle.reader.specs.Listing
 
 -- tokens whose indexes run from one to another
-data Run (n : ℕ) : ℕ → List Tok → Type 0 where
+pub data Run (n : ℕ) : ℕ → List Tok → Type 0 where
   end : {i : ℕ} → i ≡ n → Run n i []
   next : {i j : ℕ} {k : Terminal} {ts : List Tok} → i ≡ j → Run n (i + 1) ts → Run n i (tok j k ∷ ts)
 
-here : {n i j : ℕ} {k : Terminal} {ts : List Tok} → Run n i (tok j k ∷ ts) → i ≡ j
+pub here : {n i j : ℕ} {k : Terminal} {ts : List Tok} → Run n i (tok j k ∷ ts) → i ≡ j
 here (next e r) = e
 
-on : {n i j : ℕ} {k : Terminal} {ts : List Tok} → Run n i (tok j k ∷ ts) → Run n (i + 1) ts
+pub on : {n i j : ℕ} {k : Terminal} {ts : List Tok} → Run n i (tok j k ∷ ts) → Run n (i + 1) ts
 on (next e r) = r
 
-below : {n i : ℕ} {ts : List Tok} → Run n i ts → i ≤ n
+pub below : {n i : ℕ} {ts : List Tok} → Run n i ts → i ≤ n
 below (end e) = omega arith
 below (next e r) = let h = below r in omega arith
 
-numbered : (ts : List Token) (i n : ℕ) → i + length ts ≡ n → Run n i (terminals i ts)
+pub numbered : (ts : List Token) (i n : ℕ) → i + length ts ≡ n → Run n i (terminals i ts)
 unfolding terminals
 numbered [] i n e = let z : i ≡ n = omega arith in end z
 numbered (t ∷ ts) i n e = next refl (numbered ts (i + 1) n (omega arith))
 
 -- behind a term that began at `at`, and behind several
-record Past (n at : ℕ) (rest : List Tok) (t : Tree) : Type 0 where
-  to : ℕ
-  run : Run n to rest
+pub record Past (n at : ℕ) (rest : List Tok) (t : Tree) : Type 0 where
+  pub to : ℕ
+  pub run : Run n to rest
   ahead : at < to
   within : Within n t
 
-record PastAll (n at : ℕ) (rest : List Tok) (f : Forest) : Type 0 where
-  to : ℕ
-  run : Run n to rest
+pub record PastAll (n at : ℕ) (rest : List Tok) (f : Forest) : Type 0 where
+  pub to : ℕ
+  pub run : Run n to rest
   ahead : at + arity f ≤ to
   within : WithinAll n f
 
@@ -71,7 +71,7 @@ others curly = true
 others emptyList = true
 others emptyCurly = true
 
-apart : (k : NodeKind) → others k ≡ true → k ≡ negative → ⊥
+pub apart : (k : NodeKind) → others k ≡ true → k ≡ negative → ⊥
 apart k h e = let z : false ≡ true = sym (ap others e) ∙ h in let y : _≡_ {A = ℕ} 0 1 = cc in omega arith
 
 module _ (n : ℕ) (small : n ≤ 1024) where
@@ -163,7 +163,7 @@ module _ (n : ℕ) (small : n ≤ 1024) where
 
   module _ (T : Table) where
     mutual
-      term-past : {p : ℕ} {ts rest : List Tok} {t : Tree} → Term T p ts rest t → (at : ℕ) → Run n at ts → Past n at rest t
+      pub term-past : {p : ℕ} {ts rest : List Tok} {t : Tree} → Term T p ts rest t → (at : ℕ) → Run n at ts → Past n at rest t
       term-past aNumber at r = leaf-past at r
       term-past aVarOrString at r = leaf-past at r
       term-past (aName h) at r = leaf-past at r
@@ -182,11 +182,11 @@ module _ (n : ℕ) (small : n ≤ 1024) where
           node-past prefix (t ◂ nil) at (at + 1) (apart prefix refl) (omega arith) r (one-past (at + 1) (term-past w (at + 1) (on r)))
       term-past (anInfix w a b c v d) at r = let x = term-past w at r in infix-past at x (term-past v (x .to + 1) (on (x .run)))
 
-      args-past : {ts rest : List Tok} {f : Forest} → Args T ts rest f → (at : ℕ) → Run n at ts → PastAll n at rest f
+      pub args-past : {ts rest : List Tok} {f : Forest} → Args T ts rest f → (at : ℕ) → Run n at ts → PastAll n at rest f
       args-past (one w) at r = one-past at (place-past w at r)
       args-past (more w v) at r = let x = place-past w at r in more-past at x (args-past v (x .to + 1) (on (x .run)))
 
-      place-past : {p : ℕ} {ts rest : List Tok} {t : Tree} → Place T p ts rest t → (at : ℕ) → Run n at ts → Past n at rest t
+      pub place-past : {p : ℕ} {ts rest : List Tok} {t : Tree} → Place T p ts rest t → (at : ℕ) → Run n at ts → Past n at rest t
       place-past (alone h) at r = leaf-past at r
       place-past (whole w h) at r = term-past w at r
 

@@ -28,3 +28,4 @@ pub mod Terms
 pub mod Walks
 pub mod Spans
 pub mod LineOutcomes
+pub mod LineFits

@@ -19,10 +19,12 @@ use Rattle.reader.specs.Tree.{NodeKind, Tree, packed, numbers}
 use Rattle.reader.specs.Grammar.{Clause, Reads}
 use Rattle.reader.specs.Machine.{Out, done, run, start, answer, Numbered}
 use Rattle.reader.specs.Clause.{mostTokens, whole, clauseTokens, Outcome}
-use Rattle.reader.specs.Listing.{Within, kindOf}
-use Rattle.reader.specs.LineCall.{LineOutcome}
+use Rattle.reader.specs.Listing.{Within, kindOf, line}
+use Rattle.reader.specs.LineCall.{longestLine, LineOutcome}
 use Rattle.reader.specs.declared.clause.ClauseAnswer.{ClauseAnswer}
 use Rattle.reader.specs.declared.line_call.LineAnswer.{LineAnswer}
+use Rattle.reader.specs.declared.line_call.LineAnswer.the-variants.{Read, Refused}
+use Rattle.reader.proofs.LineFits.{line-short, read-whole, refused-anyway}
 use Rattle.reader.proofs.LineOutcomes.{some-line, one-line}
 use Rattle.reader.proofs.Outcomes.{some-outcome, one-outcome}
 use Rattle.reader.proofs.Permits.{never-no-reading, read-tree, room-reads, behind-clause, behind-line}
@@ -95,6 +97,20 @@ module _ (s : List ℕ) (c : Cursor) (d : List ℕ) where
   -- so it is behind a line.
   pub next-line-cursor : {n : ℕ} {e : Cursor} {x : List ℕ} → LineOutcome s c d (LineAnswer.Read n e) x → (valid (length s) e ≡ true) × (c .offset < e .offset) × (e .offset ≤ length s)
   next-line-cursor = behind-line s c d
+
+-- No line is longer than longestLine bytes, whatever the table; so with a slice of as many a clause that has a reading is read, and never refused for room.
+module _ (s : List ℕ) (c : Cursor) (v : valid (length s) c ≡ true) (ts : List Token) (e : Cursor) (g : clauseTokens s c ≡ whole ts e) where
+  pub line-fits : (T : Table) (t : Tree) → Reads T ts t → length (line s ts t) ≤ longestLine
+  line-fits = line-short s c v ts e g
+
+  pub line-read : (t : Tree) → Reads operators ts t → (d : List ℕ) → longestLine ≤ length d → (r : LineAnswer) (x : List ℕ) → LineOutcome s c d r x
+      → r ≡ Read (length (line s ts t)) e
+  line-read = read-whole s c v ts e g
+
+-- A refusal with such a slice is the refusal whatever the slice.
+pub line-refused : (s : List ℕ) (c : Cursor) (d : List ℕ) → longestLine ≤ length d → (w : Fault) (k : Cursor) (d′ : List ℕ) (r : LineAnswer) (x : List ℕ) → LineOutcome s c d r x
+    → r ≡ Refused w k → LineOutcome s c d′ (Refused w c) d′
+line-refused = refused-anyway
 
 -- ---- names, the table, specimens
 

@@ -1,5 +1,5 @@
 -- The line of a clause, from its text: 01, "standard input to one line a clause". Definitions only.
-use Prim.Native.Nat.{ℕ, _*_, _<_, _≤_}
+use Prim.Native.Nat.{ℕ, _+_, _-_, _*_, _<_, _≤_}
 use mathlib.Core.Path.{_≡_}
 use mathlib.Core.Bool.{true, false}
 use mathlib.Core.List.{List, map}
@@ -19,6 +19,10 @@ use Rattle.reader.specs.Clause.{mostTokens, whole, stopped, tooMany, cla
 use Rattle.reader.specs.Listing.{line}
 use Rattle.reader.specs.declared.line_call.LineAnswer.{LineAnswer}
 use Rattle.reader.specs.declared.line_call.LineAnswer.the-variants.{Read, Refused}
+
+-- no line is longer (proofs/Theorems: `line-fits`): a token pays for its own bytes and five more, and the end mark is not printed
+abbrev pub longestLine : ℕ
+longestLine = longest + 5 * (mostTokens - 1)
 
 -- what the call may answer, and leave in the slice d: refused as the clause call refuses, or the line. Two that are permitted coincide (proofs/Theorems)
 pub data LineOutcome (s : List ℕ) (c : Cursor) (d : List ℕ) : LineAnswer → List ℕ → Type 0 where

@@ -1,16 +1,20 @@
--- `list_text` is safe and ends. The measure is what lies behind the cursor. Assumes nothing.
+-- `list_text` meets its contract. The invariant: what ends the listing from here ends it from the start. The measure is what lies behind the cursor.
+-- Assumes nothing.
 use Prim.Native.Nat.{ℕ, _+_, _-_, _<_, _≤_}
-use mathlib.Core.Path.{_≡_, refl, sym, _∙_}
+use mathlib.Core.Path.{_≡_, refl, sym, _∙_, subst}
 use mathlib.Core.List.{List, _++_}
 use native.Mathlib.Omega.{arith}
 use borrow.Author.Needs.{needs}
 use lib.ListN.{length, take, drop}
 use lib.Seq.{length-take-le, length-front}
+use Rattle.lexer.specs.Cursor.{startCursor}
 use Rattle.lexer.specs.declared.cursor.Cursor.{Cursor}
-use Rattle.reader.specs.LineCall.{LineOutcome}
+use Rattle.lexer.specs.declared.refusal.Fault.{Fault}
+use Rattle.reader.specs.LineCall.{longestLine, LineOutcome}
 use Rattle.reader.specs.declared.line_call.LineAnswer.{LineAnswer}
 use Rattle.reader.proofs.LineOutcomes.{line-read}
-use Rattle.reader.proofs.Theorems.{next-line-cursor}
+use Rattle.reader.proofs.Theorems.{next-line-cursor, line-refused}
+use Rattle.listing.specs.Ends.{Ends, refused, after}
 use Rattle.listing.proofs.list_text.Statement.{statement}
 use Rattle.listing.proofs.list_text.Tie as tie
 
@@ -19,14 +23,22 @@ module _ (s : List ℕ) (c : Cursor) (d : List ℕ) (r : LineAnswer) (d′ : Lis
   nearer = let p = next-line-cursor s c d (rw h at o) in omega (arith, p .1, p .2)
 
 -- the line's room, and one byte for the newline
-record Inv (line₀ line : List ℕ) (room : ℕ) : Type 0 where
+record Placed (line₀ line : List ℕ) (room : ℕ) : Type 0 where
   same : length line ≡ length line₀
   last : room + 1 ≡ length line
+  enough : longestLine ≤ room
 
-begin : (line : List ℕ) → 0 < length line → Inv line line (length line - 1)
-begin line h = record { same = refl; last = omega arith }
+record Behind (s : List ℕ) (c : Cursor) : Type 0 where
+  back : (w : Fault) → Ends s c w → Ends s startCursor w
 
-module _ (line₀ line : List ℕ) (room : ℕ) (v : Inv line₀ line room) where
+record Inv (s line₀ line : List ℕ) (room : ℕ) (c : Cursor) : Type 0 where
+  placed : Placed line₀ line room
+  behind : Behind s c
+
+begin : (s line : List ℕ) → longestLine < length line → Inv s line line (length line - 1) startCursor
+begin s line h = record { placed = record { same = refl; last = omega arith; enough = omega arith }; behind = record { back = λ w z. z } }
+
+module _ (line₀ line : List ℕ) (room : ℕ) (v : Placed line₀ line room) where
   under : room ≤ length line
   under = omega (arith, v .last)
 
@@ -41,13 +53,22 @@ module _ (line₀ line : List ℕ) (room : ℕ) (v : Inv line₀ line room) wher
       → length d′ ≡ length (take room line) → n < length (d′ ++ drop room line)
   fits s c r d′ n e o h k = omega (arith, line-read s c (take room line) r d′ n e o h .fits, lent, v .last, length-front line d′ room k)
 
-  again : (line′ : List ℕ) → length line′ ≡ length line → Inv line₀ line′ room
-  again line′ e = record { same = e ∙ v .same; last = v .last ∙ sym e }
+  placed-again : (line′ : List ℕ) → length line′ ≡ length line → Placed line₀ line′ room
+  placed-again line′ e = record { same = e ∙ v .same; last = v .last ∙ sym e; enough = v .enough }
 
-ruleset ways = (begin, under, lent, kept, again, nearer, fits, length-front, needs)
+  -- the refusal is not for room
+  ended : (s : List ℕ) (c : Cursor) (r : LineAnswer) (d′ : List ℕ) (w : Fault) (k : Cursor) → Behind s c → LineOutcome s c (take room line) r d′
+      → r ≡ LineAnswer.Refused w k → Ends s startCursor w
+  ended s c r d′ w k b o h = b .back w (refused (λ d. line-refused s c (take room line) (omega (arith, lent, v .enough)) w k d r d′ o h))
+
+-- one clause further
+read-on : (s : List ℕ) (c : Cursor) (d : List ℕ) (r : LineAnswer) (d′ : List ℕ) (n : ℕ) (e : Cursor) → Behind s c → LineOutcome s c d r d′ → r ≡ LineAnswer.Read n e → Behind s e
+read-on s c d r d′ n e b o h = record { back = λ w z. b .back w (after (subst (λ (x : LineAnswer). LineOutcome s c d x d′) h o) z) }
+
+ruleset ways = (begin, under, lent, kept, fits, placed-again, ended, read-on, nearer, length-front, needs)
 
 abbrev Inv-loop : tie.InvT-loop
-Inv-loop text line₀ cursor₀ room line cursor = Inv line₀ line room
+Inv-loop text line₀ cursor₀ room line cursor = Inv text line₀ line room cursor
 
 abbrev μ-loop : tie.MeasureT-loop
 μ-loop text line₀ cursor₀ room line cursor = length text - cursor .offset
@@ -87,7 +108,7 @@ loop-less : tie.Need-loop-less Inv-loop μ-loop
 loop-less c = search ways
 
 loop-again : tie.Need-loop-again Inv-loop μ-loop
-loop-again c = search ways
+loop-again c = record { placed = search ways; behind = search ways }
 
 pub list-text-spec : {M : Type 1} → statement M
 list-text-spec =
