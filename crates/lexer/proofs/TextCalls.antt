@@ -2,16 +2,20 @@
 use mathlib.Core.Path.{_≡_, refl, sym, _∙_, ap}
 use mathlib.Core.Bool.{Bool, true, false, cond}
 use mathlib.Core.List.{List, [], _++_}
-use Prim.Native.Nat.{ℕ, _+_, _-_, _≤_}
+use Prim.Native.Nat.{ℕ, _+_, _-_, _<_, _≤_}
 use native.Mathlib.Omega.{arith}
 use borrow.Author.Tests.{leb-true, le-leb}
 use lib.Dec.{leb}
-use lib.ListN.{length, drop}
+use lib.ListN.{length, getD, drop}
 use lib.Seq.{sets, length-sets, sets-eq, take-append-seam, drop-append-seam}
 use denote.Ref.{RefT, ptr, now}
-use Rattle.lexer.specs.Cursor.{part, moveTo, valid}
-use Rattle.lexer.specs.Text.{Outcome, leaves, textTold, nextTokenText, partOf, fitted, shown}
+use Rattle.lexer.specs.Chars.{classOf, singleQuote}
+use Rattle.lexer.specs.Cursor.{longest, part, moveTo, valid}
+use Rattle.lexer.specs.Look.{lookahead}
+use Rattle.lexer.specs.Quoted.{decode}
+use Rattle.lexer.specs.Text.{Outcome, leaves, textTold, nextTokenText, countedText, quotedFrom, quotedText, partOf, fitted, shown}
 use Rattle.lexer.specs.Token.{source, decoded, none, Lexeme, lexeme, refused, readLexeme, answered, notValid, nextToken}
+use Rattle.lexer.specs.declared.chars.Look.{Look}
 use Rattle.lexer.specs.declared.refusal.Fault.{Fault}
 use Rattle.lexer.specs.declared.cursor.Cursor.{Cursor}
 use Rattle.lexer.specs.declared.token.Token.{Token}
@@ -19,6 +23,7 @@ use Rattle.lexer.specs.declared.token.Answer.{Answer}
 use Rattle.lexer.specs.declared.text.Part.{Part}
 use Rattle.lexer.specs.declared.text.TextAnswer.the-variants.{Read, Refused}
 use Rattle.lexer.proofs.Cursors.{is-valid}
+use Rattle.lexer.proofs.Looks.{byte-look}
 use Rattle.lexer.proofs.Promises.{lexeme-ends}
 
 -- the bytes of a token's text
@@ -128,3 +133,13 @@ module _ (s : List ℕ) (c : Cursor) (d : List ℕ) where
   pub nothing-left : (w : Fault) (e : Cursor) (x : List ℕ) → nextTokenText s c d ≡ leaves (Refused w e) x → (e ≡ c) × (x ≡ d)
   unfolding called
   nothing-left w e x h = left w e x (valid (length s) c) (readLexeme false s (c .offset)) h
+
+-- ---- the quoted-text call
+module _ (s : List ℕ) (at : ℕ) (short : length s ≤ longest) (inside : at < length s) (quote : getD s at 0 ≡ singleQuote) where
+  quote-look : lookahead s at ≡ Look.Byte singleQuote
+  unfolding classOf
+  quote-look = byte-look s at singleQuote inside quote refl
+
+  pub quote-decodes : (d : List ℕ) → quotedText s at d ≡ countedText at d (decode singleQuote at s (at + 1))
+  unfolding quotedFrom
+  quote-decodes d = cc (le-leb (length s) longest short, le-leb at (length s) (omega (arith, inside)), quote-look)

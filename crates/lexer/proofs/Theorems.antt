@@ -8,14 +8,14 @@ use lib.Dec.{eqb}
 use lib.Ieee.{Float}
 use lib.ListN.{length, getD}
 use denote.Ref.{RefT, ptr, now}
-use Rattle.lexer.specs.Chars.{is, foreignByte, comma}
+use Rattle.lexer.specs.Chars.{is, foreignByte, singleQuote, comma}
 use Rattle.lexer.specs.Cursor.{longest, startCursor, walk, part, moveTo, valid, Valid}
 use Rattle.lexer.specs.Float.{Limits, Scale, scale, over, under, floatValue}
 use Rattle.lexer.specs.Layout.{commentText}
 use Rattle.lexer.specs.Nearest.{Nearest}
 use Rattle.lexer.specs.Quoted.{Quoted, decode}
 use Rattle.lexer.specs.Refusal.{numberOf, fault}
-use Rattle.lexer.specs.Text.{leaves, nextTokenText, seen, shown, counts, quotedText}
+use Rattle.lexer.specs.Text.{leaves, nextTokenText, seen, shown, counts, countedText, quotedText}
 use Rattle.lexer.specs.Token.{Text, decoded, lexeme, isComma, readLexeme, nextToken, nextNumberToken}
 use Rattle.lexer.specs.declared.refusal.Fault.{Fault}
 use Rattle.lexer.specs.declared.refusal.Refusal.{Refusal}
@@ -40,7 +40,7 @@ use Rattle.lexer.proofs.Specimens.{table, specimens}
 pub use Rattle.lexer.proofs.Spellings.{NameText, quoted, unquoted}
 use Rattle.lexer.proofs.Spellings.{name-text}
 use Rattle.lexer.proofs.Steps as Steps
-use Rattle.lexer.proofs.TextCalls.{Told, text-told, nothing-left}
+use Rattle.lexer.proofs.TextCalls.{Told, text-told, nothing-left, quote-decodes}
 use Rattle.lexer.proofs.Texts.{decoded-at}
 use Rattle.lexer.proofs.float.Values.{Exact, value-says, says-value, scale-exact}
 
@@ -132,6 +132,10 @@ module _ (field : Bool) (s : List ℕ) (from : ℕ) (t : Token) (e : ℕ) where
   -- a decoded text is what the quoted item behind the token's first byte, its quote, stands for
   pub decoded-spelt : (bs : List ℕ) → readLexeme field s from ≡ lexeme t e (decoded bs) → decode (getD s (t .start) 0) (t .start) s (t .start + 1) ≡ Quoted.whole bs e
   decoded-spelt bs f = decoded-at s field from t e bs f .reads
+
+-- where a single quote stands, the quoted-text call decodes the item behind it
+pub quoted-decoded : (s : List ℕ) (at : ℕ) → length s ≤ longest → at < length s → getD s at 0 ≡ singleQuote → (d : List ℕ) → quotedText s at d ≡ countedText at d (decode singleQuote at s (at + 1))
+quoted-decoded = quote-decodes
 
 -- what the test of a cursor tells
 pub is-valid : (n : ℕ) (c : Cursor) → valid n c ≡ true → Valid n c

@@ -9,7 +9,7 @@ use Rattle.lexer.specs.Chars.{openParen}
 use Rattle.lexer.specs.Cursor.{valid, part}
 use Rattle.lexer.specs.declared.cursor.Cursor.{Cursor}
 use Rattle.lexer.specs.declared.refusal.Fault.{Fault}
-use Rattle.lexer.proofs.Cursors.{is-valid}
+use Rattle.lexer.proofs.Theorems.{is-valid}
 use Rattle.reader.specs.Token.{Token, Terminal, Tok, tok}
 use Rattle.reader.specs.Ops.{Table, operators}
 use Rattle.reader.specs.Tree.{NodeKind, plain, negative, call, prefix, infx, list, listTail, curly, emptyList, emptyCurly, Tree, node, Forest, nil, _◂_, snoc}

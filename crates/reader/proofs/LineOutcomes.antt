@@ -1,10 +1,9 @@
 -- Of the line of a clause one outcome is permitted, and there is one. Assumes nothing.
-use Prim.Native.Nat.{ℕ, _<_, _≤_}
-use mathlib.Core.Path.{_≡_, refl, sym, _∙_, ap, subst}
+use Prim.Native.Nat.{ℕ}
+use mathlib.Core.Path.{_≡_, refl, ap}
 use mathlib.Core.Bool.{Bool, true, false, cond}
 use mathlib.Core.Logic.{_⊎_, inl, inr}
 use mathlib.Core.List.{List}
-use native.Mathlib.Omega.{arith}
 use borrow.Author.Tests.{le-leb, lt-leb, leb-true, leb-false}
 use lib.Dec.{leb}
 use lib.ListN.{length}
@@ -14,18 +13,16 @@ use Rattle.lexer.specs.Refusal.{fault}
 use Rattle.lexer.specs.Token.{notValid}
 use Rattle.lexer.specs.declared.cursor.Cursor.{Cursor}
 use Rattle.lexer.specs.declared.refusal.Refusal.the-variants.{NoRoom, TooManyTokens, NoReading}
-use Rattle.lexer.proofs.Theorems.{is-valid}
 use Rattle.reader.specs.Token.{Token, terminals}
 use Rattle.reader.specs.Ops.{operators}
 use Rattle.reader.specs.Tree.{Tree}
 use Rattle.reader.specs.Grammar.{Reads}
-use Rattle.reader.specs.Clause.{mostTokens, Gathered, whole, stopped, tooMany, clauseTokens, firstOffset}
+use Rattle.reader.specs.Clause.{Gathered, whole, stopped, tooMany, clauseTokens, firstOffset}
 use Rattle.reader.specs.Listing.{line}
 use Rattle.reader.specs.LineCall.{LineOutcome, invalid, token, noMark, noReading, noRoom, read}
 use Rattle.reader.specs.declared.line_call.LineAnswer.{LineAnswer}
 use Rattle.reader.specs.declared.line_call.LineAnswer.the-variants.{Read, Refused}
 use Rattle.reader.proofs.Answer.{one-tree, reads?}
-use Rattle.reader.proofs.Spans.{gathered-few}
 use Rattle.reader.proofs.Table.{fair, operators-admitted}
 
 -- an answer, and what is left in the slice
@@ -118,22 +115,3 @@ module _ (s : List ℕ) (c : Cursor) (d : List ℕ) where
   -- two permitted outcomes coincide
   pub one-line : {r r′ : LineAnswer} {x x′ : List ℕ} → LineOutcome s c d r x → LineOutcome s c d r′ x′ → (r ≡ r′) × (x ≡ x′)
   one-line a b = let p = only a in let q = only b in (cc, cc)
-
--- a line that was read: it fits, and the cursor behind its clause stands further on in the text
-pub record LineRead (s : List ℕ) (c : Cursor) (d : List ℕ) (n : ℕ) (e : Cursor) : Type 0 where
-  pub fits : n ≤ length d
-  pub further : c .offset < e .offset
-  pub inside : e .offset ≤ length s
-
-pub line-read : (s : List ℕ) (c : Cursor) (d : List ℕ) (r : LineAnswer) (d′ : List ℕ) (n : ℕ) (e : Cursor) → LineOutcome s c d r d′ → r ≡ Read n e → LineRead s c d n e
-line-read s c d r d′ n e (invalid v) h = let z : _≡_ {A = ℕ} 0 1 = cc in absurd (omega arith)
-line-read s c d r d′ n e (token v g) h = let z : _≡_ {A = ℕ} 0 1 = cc in absurd (omega arith)
-line-read s c d r d′ n e (noMark v g) h = let z : _≡_ {A = ℕ} 0 1 = cc in absurd (omega arith)
-line-read s c d r d′ n e (noReading v g q) h = let z : _≡_ {A = ℕ} 0 1 = cc in absurd (omega arith)
-line-read s c d r d′ n e (noRoom v g q l) h = let z : _≡_ {A = ℕ} 0 1 = cc in absurd (omega arith)
-line-read s c d r d′ n e (read {ts} {e = k} {t = t} v g q l) h =
-    let f = gathered-few mostTokens s c ts k v g in
-    let i = is-valid (length s) k (f .next-passes) in
-    let m : length (line s ts t) ≡ n = cc in
-    let o : k .offset ≡ e .offset = cc in
-    record { fits = omega arith; further = omega (arith, f .further); inside = omega (arith, i .offset) }

@@ -57,14 +57,19 @@ module _ (s : List ℕ) (c : Cursor) (d : List ℕ) where
 
   -- ---- the cursor behind a clause that was read
 
-  abbrev Next : Cursor → Type 0
+  -- it is valid, further on, and within the text
+  abbrev pub Next : Cursor → Type 0
   Next e = (valid (length s) e ≡ true) × (c .offset < e .offset) × (e .offset ≤ length s)
 
   behind : (ts : List Token) (e : Cursor) → valid (length s) c ≡ true → clauseTokens s c ≡ whole ts e → Next e
   behind ts e v g = let f = gathered-few mostTokens s c ts e v g in (f .next-passes, f .further, f .inside)
 
-  pub behind-clause : {n : ℕ} {e : Cursor} {x : List ℕ} → Outcome s c d (Read n e) x → (valid (length s) e ≡ true) × (c .offset < e .offset) × (e .offset ≤ length s)
+  pub behind-clause : {n : ℕ} {e : Cursor} {x : List ℕ} → Outcome s c d (Read n e) x → Next e
   behind-clause (read {ts} {e} v g r m l) = behind ts e v g
 
-  pub behind-line : {n : ℕ} {e : Cursor} {x : List ℕ} → LineOutcome s c d (LineAnswer.Read n e) x → (valid (length s) e ≡ true) × (c .offset < e .offset) × (e .offset ≤ length s)
+  pub behind-line : {n : ℕ} {e : Cursor} {x : List ℕ} → LineOutcome s c d (LineAnswer.Read n e) x → Next e
   behind-line (Line.read {ts} {e} v g r l) = behind ts e v g
+
+  -- a line that was read fits
+  pub fits-line : {n : ℕ} {e : Cursor} {x : List ℕ} → LineOutcome s c d (LineAnswer.Read n e) x → n ≤ length d
+  fits-line (Line.read v g r l) = l

@@ -27,7 +27,7 @@ use Rattle.reader.specs.declared.line_call.LineAnswer.the-variants.{Read
 use Rattle.reader.proofs.LineFits.{line-short, read-whole, refused-anyway}
 use Rattle.reader.proofs.LineOutcomes.{some-line, one-line}
 use Rattle.reader.proofs.Outcomes.{some-outcome, one-outcome}
-use Rattle.reader.proofs.Permits.{never-no-reading, read-tree, room-reads, behind-clause, behind-line}
+use Rattle.reader.proofs.Permits.{never-no-reading, read-tree, room-reads, behind-clause, behind-line, fits-line}
 use Rattle.reader.proofs.Indexes.{reads-within}
 use Rattle.reader.proofs.Terms.{packed-both}
 use Rattle.reader.proofs.Table.{same-exactly, fair, operators-admitted}
@@ -97,6 +97,10 @@ module _ (s : List ℕ) (c : Cursor) (d : List ℕ) where
   -- so it is behind a line.
   pub next-line-cursor : {n : ℕ} {e : Cursor} {x : List ℕ} → LineOutcome s c d (LineAnswer.Read n e) x → (valid (length s) e ≡ true) × (c .offset < e .offset) × (e .offset ≤ length s)
   next-line-cursor = behind-line s c d
+
+  -- A line that was read fits its slice.
+  pub line-inside : {n : ℕ} {e : Cursor} {x : List ℕ} → LineOutcome s c d (LineAnswer.Read n e) x → n ≤ length d
+  line-inside = fits-line s c d
 
 -- No line is longer than longestLine bytes, whatever the table; so with a slice of as many a clause that has a reading is read, and never refused for room.
 module _ (s : List ℕ) (c : Cursor) (v : valid (length s) c ≡ true) (ts : List Token) (e : Cursor) (g : clauseTokens s c ≡ whole ts e) where

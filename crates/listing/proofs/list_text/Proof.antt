@@ -12,8 +12,7 @@ use Rattle.lexer.specs.declared.cursor.Cursor.{Cursor}
 use Rattle.lexer.specs.declared.refusal.Fault.{Fault}
 use Rattle.reader.specs.LineCall.{longestLine, LineOutcome}
 use Rattle.reader.specs.declared.line_call.LineAnswer.{LineAnswer}
-use Rattle.reader.proofs.LineOutcomes.{line-read}
-use Rattle.reader.proofs.Theorems.{next-line-cursor, line-refused}
+use Rattle.reader.proofs.Theorems.{next-line-cursor, line-inside, line-refused}
 use Rattle.listing.specs.Ends.{Ends, refused, after}
 use Rattle.listing.proofs.list_text.Statement.{statement}
 use Rattle.listing.proofs.list_text.Tie as tie
@@ -51,7 +50,7 @@ module _ (line₀ line : List ℕ) (room : ℕ) (v : Placed line₀ line room) w
   -- the line was put in front of the newline's place
   fits : (s : List ℕ) (c : Cursor) (r : LineAnswer) (d′ : List ℕ) (n : ℕ) (e : Cursor) → LineOutcome s c (take room line) r d′ → r ≡ LineAnswer.Read n e
       → length d′ ≡ length (take room line) → n < length (d′ ++ drop room line)
-  fits s c r d′ n e o h k = omega (arith, line-read s c (take room line) r d′ n e o h .fits, lent, v .last, length-front line d′ room k)
+  fits s c r d′ n e o h k = omega (arith, line-inside s c (take room line) (rw h at o), lent, v .last, length-front line d′ room k)
 
   placed-again : (line′ : List ℕ) → length line′ ≡ length line → Placed line₀ line′ room
   placed-again line′ e = record { same = e ∙ v .same; last = v .last ∙ sym e; enough = v .enough }

@@ -5,22 +5,18 @@ use mathlib.Core.Bool.{Bool, true, false, cond}
 use mathlib.Core.List.{List}
 use native.Mathlib.Omega.{arith}
 use borrow.Author.Needs.{needs}
-use borrow.Author.Tests.{le-leb, leb-true, leb-false}
+use borrow.Author.Tests.{leb-true, leb-false}
 use lib.Dec.{leb}
 use lib.ListN.{length, take, drop}
 use lib.Seq.{sets, length-sets}
-use Rattle.lexer.specs.Chars.{classOf, singleQuote}
-use Rattle.lexer.specs.Cursor.{longest}
-use Rattle.lexer.specs.Look.{lookahead}
 use Rattle.lexer.specs.Quoted.{Quoted, bytesOf}
 use Rattle.lexer.specs.Refusal.{fault}
-use Rattle.lexer.specs.Text.{Counted, counts, countedText, quotedFrom, quotedText}
-use Rattle.lexer.specs.declared.chars.Look.{Look}
+use Rattle.lexer.specs.Text.{Counted, counts, countedText, quotedText}
 use Rattle.lexer.specs.declared.refusal.Fault.{Fault}
 use Rattle.lexer.specs.declared.refusal.Refusal.the-variants.{NoRoom}
 use Rattle.lexer.specs.declared.text.QuotedAnswer.{QuotedAnswer}
 use Rattle.lexer.specs.declared.text.QuotedAnswer.the-variants.{Read, Refused}
-use Rattle.lexer.proofs.Looks.{byte-look}
+use Rattle.lexer.proofs.Theorems.{quoted-decoded}
 use Rattle.reader.specs.Ops.{operators}
 use Rattle.reader.specs.Roles.{rolesOf}
 use Rattle.reader.specs.Names.{Part}
@@ -42,13 +38,8 @@ module _ (s : List ℕ) (at : ℕ) (q : QuotedAt s at) where
   unfolding bytesOf
   its-bytes = ap bytesOf (q .decodes)
 
-  look : lookahead s at ≡ Look.Byte singleQuote
-  unfolding classOf
-  look = byte-look s at singleQuote (q .inside) (q .quote) refl
-
   told : (d : List ℕ) → quotedText s at d ≡ countedText at d (Quoted.whole (q .bytes) (q .end))
-  unfolding quotedFrom
-  told d = cc (le-leb (length s) longest (q .short), le-leb at (length s) (omega (arith, q .inside)), look, q .quote, q .decodes)
+  told d = cc (quoted-decoded s at (q .short) (q .inside) (q .quote) d, q .quote, q .decodes)
 
   module _ (d d′ : List ℕ) (a : QuotedAnswer) (f : counts a d′ ≡ quotedText s at d) where
     -- the answer, by the room
