@@ -7,6 +7,7 @@ use native.Mathlib.Omega.{arith}
 use lib.ListN.{length, length-append}
 use Rattle.lexer.specs.Chars.{openParen}
 use Rattle.lexer.specs.Cursor.{valid, part}
+use Rattle.lexer.specs.Token.{isComma}
 use Rattle.lexer.specs.declared.cursor.Cursor.{Cursor}
 use Rattle.lexer.specs.declared.refusal.Fault.{Fault}
 use Rattle.lexer.proofs.Theorems.{is-valid}
@@ -16,7 +17,7 @@ use Rattle.reader.specs.Tree.{NodeKind, plain, negative, call, prefix, i
 use Rattle.reader.specs.Grammar.{Term, aNumber, aVarOrString, aName, aCall, aRound, aList, aListTail, aCurly, anEmptyList, anEmptyCurly, aNegative, aPrefix, anInfix, Args, one, more, Place, alone, whole, clause, Reads}
 use Rattle.reader.specs.Clause as gathered
 use Rattle.reader.specs.Clause.{mostTokens, clauseTokens}
-use Rattle.reader.specs.Listing.{shapeOf, lastSeparator, front, back, printed, joined, others, isComma, quotedComma, tokenAt, spelled, line}
+use Rattle.reader.specs.Listing.{shapeOf, lastSeparator, front, back, printed, joined, others, quotedComma, tokenAt, spelled, line}
 use Rattle.reader.specs.LineCall.{longestLine, LineOutcome, invalid, token, noMark, noReading, noRoom, read}
 use Rattle.reader.specs.declared.line_call.LineAnswer.{LineAnswer}
 use Rattle.reader.specs.declared.line_call.LineAnswer.the-variants.{Read, Refused}
