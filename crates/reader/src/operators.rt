@@ -3,7 +3,7 @@ ghost use mathlib.Core.Path.{_≡_};
 ghost use Prim.Native.Nat.{_<_};
 ghost use Rattle.reader.specs.Names.{entryOf, entryAt};
 
-// The kinds of operators. Numbers and no enum: the table is one statement for each entry then, not two, and is proved in a quarter of the time.
+// The kinds of operators. Numbers and no enum: the table is one statement for each entry then, not two, and the walk of it costs a fifth.
 pub(crate) const XFX: u8 = 0;
 
 pub(crate) const XFY: u8 = 1;
