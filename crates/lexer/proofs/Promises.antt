@@ -8,7 +8,7 @@ use native.Mathlib.Omega.{arith}
 use borrow.Author.Tests.{eqb-true, leb-true, lt-ltb}
 use lib.Dec.{eqb, leb, ltb}
 use lib.ListN.{length, drop, getD}
-use Rattle.lexer.specs.Chars.{classOf, is, within, among, graphicTokenChars, soloChars, smallLetter, capitalLetter, underscoreChar, decimalDigit, graphicTokenChar, layoutChar, soloChar, quoteChar, foreignByte, smallA, smallZ, capitalA, capitalZ, digitZero, digitNine, underscore, newline, tab, space, percent, singleQuote, doubleQuote, backQuote, cut, semicolon, point, bar}
+use Rattle.lexer.specs.Chars.{classOf, is, within, among, graphicTokenChars, layoutChars, soloChars, smallLetter, capitalLetter, underscoreChar, decimalDigit, graphicTokenChar, layoutChar, soloChar, quoteChar, foreignByte, smallA, smallZ, capitalA, capitalZ, digitZero, digitNine, underscore, newline, percent, singleQuote, doubleQuote, backQuote, cut, semicolon, point, bar}
 use Rattle.lexer.specs.Digits.{digitOf, isDigit, beyond}
 use Rattle.lexer.specs.Float.{floatValue}
 use Rattle.lexer.specs.Layout.{layoutEnd}
@@ -52,7 +52,7 @@ other-class x f =
     (λ _. by-test Other (eqb x underscore) _ _ (λ _ h. omega arith)
     (λ _. by-test Other (within digitZero digitNine x) _ _ (λ t h. let z : _≡_ {A = ℕ} 0 1 = cc in omega arith)
     (λ _. by-test Other (among x graphicTokenChars) _ _ (λ _ h. omega arith)
-    (λ _. by-test Other (among x (tab ∷ newline ∷ space ∷ [])) _ _ (λ _ h. omega arith)
+    (λ _. by-test Other (among x layoutChars) _ _ (λ _ h. omega arith)
     (λ _. by-test Other (among x soloChars) _ _ (λ _ h. omega arith)
     (λ _. by-test Other (among x (singleQuote ∷ doubleQuote ∷ backQuote ∷ [])) _ _ (λ _ h. omega arith)
     (λ _ h. omega arith))))))))

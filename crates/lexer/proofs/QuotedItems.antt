@@ -7,7 +7,7 @@ use native.Mathlib.Omega.{arith}
 use borrow.Author.Tests.{eqb-true, eqb-false, ne-eqb}
 use lib.Dec.{eqb, leb}
 use lib.ListN.{length, getD}
-use Rattle.lexer.specs.Chars.{among, tab, newline, space, backslash, smallX}
+use Rattle.lexer.specs.Chars.{among, tab, newline, carriageReturn, space, backslash, smallX}
 use Rattle.lexer.specs.Cursor.{moveTo, Valid}
 use Rattle.lexer.specs.Digits.{isDigit, digitsAt}
 use Rattle.lexer.specs.Items.{stop, on, same}
@@ -118,7 +118,7 @@ module _ (q : ℕ) (s : List ℕ) (at : ℕ) where
       go (Look.Refused w) e = tt
       go (Look.Byte x) e =
           let l = look-byte s at x e in
-          choice (among x (newline ∷ tab ∷ [])) _ _ (λ t. tt)
+          choice (among x (newline ∷ tab ∷ carriageReturn ∷ [])) _ _ (λ t. tt)
           (λ t. let n : x ≡ newline → ⊥ = (λ g. let z : _≡_ {A = ℕ} 0 1 = cc in omega arith) in
           choice (eqb x q) _ _ (λ u. quote-ends (rw (eqb-true x q u) at l) (rw (eqb-true x q u) at n))
           (λ u. choice (eqb x backslash) _ _ (λ v. escape-ends token (rw (eqb-true x backslash v) at l)) (λ v. plain-char s at x l n)))
@@ -148,7 +148,7 @@ ordinary-char q token s at h t =
     let x = getD s at 0 in
     let w = in-stretch space 126 q backslash x t in
     let k = stretch-known x (w .from) (w .to) in
-    cc (drop-at s at h, k .0, ne-eqb x newline (k .1), ne-eqb x tab (λ e. omega arith), ne-eqb x q (w .no-p), ne-eqb x backslash (w .no-q))
+    cc (drop-at s at h, k .0, ne-eqb x newline (k .1), ne-eqb x tab (λ e. omega arith), ne-eqb x carriageReturn (λ e. omega arith), ne-eqb x q (w .no-p), ne-eqb x backslash (w .no-q))
 
 -- ---- what a quoted token comes to
 

@@ -183,6 +183,10 @@ within a b x = leb a x && leb x b
 abbrev pub graphicTokenChars : List ℕ
 graphicTokenChars = 35 ∷ 36 ∷ 38 ∷ star ∷ plus ∷ minus ∷ point ∷ slash ∷ 58 ∷ 60 ∷ 61 ∷ 62 ∷ 63 ∷ 64 ∷ 94 ∷ 126 ∷ backslash ∷ []
 
+-- 6.5.4: layout; 02, request 1, adds the carriage return
+abbrev pub layoutChars : List ℕ
+layoutChars = tab ∷ newline ∷ carriageReturn ∷ space ∷ []
+
 -- 6.5.3: ! ( ) , ; [ ] { } | %
 abbrev pub soloChars : List ℕ
 soloChars =
@@ -196,7 +200,7 @@ classOf x =
     (cond (eqb x underscore) underscoreChar
     (cond (within digitZero digitNine x) decimalDigit
     (cond (among x graphicTokenChars) graphicTokenChar
-    (cond (among x (tab ∷ newline ∷ space ∷ [])) layoutChar
+    (cond (among x layoutChars) layoutChar
     (cond (among x soloChars) soloChar
     (cond (among x (singleQuote ∷ doubleQuote ∷ backQuote ∷ [])) quoteChar
     foreignByte)))))))

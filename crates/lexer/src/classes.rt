@@ -60,13 +60,14 @@ pub(crate) fn is_graphic(b: u8) -> bool
     is_in(0xf400ec5800000000, 0x4000000050000001, b)
 }
 
-// Tab, newline and space.
+// Tab, newline, carriage return and space.
 pub(crate) fn is_layout(b: u8) -> bool
     ensures { λ r. ⌜ r ≡ is layoutChar b ⌝ }
 {
     match b {
         b'\t' => true,
         b'\n' => true,
+        b'\r' => true,
         b' ' => true,
         _ => false,
     }
@@ -90,6 +91,7 @@ pub(crate) fn is_foreign(b: u8) -> bool
     match b {
         b'\t' => false,
         b'\n' => false,
+        b'\r' => false,
         b' '..=b'~' => false,
         _ => true,
     }

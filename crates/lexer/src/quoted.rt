@@ -152,6 +152,9 @@ pub(crate) fn quoted_item(text: &[u8], at: usize, quote: u8, token: usize) -> It
             if b == b'\t' {
                 return bad_quoted(token);
             }
+            if b == b'\r' {
+                return bad_quoted(token);
+            }
             if b == quote {
                 return after_quote(text, at + 1, quote);
             }

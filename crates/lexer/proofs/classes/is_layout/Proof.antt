@@ -2,10 +2,9 @@
 use Prim.Native.Nat.{ℕ, _<_}
 use mathlib.Core.Path.{_≡_, sym, _∙_}
 use mathlib.Core.Bool.{Bool, false}
-use mathlib.Core.List.{[], _∷_}
 use borrow.Author.Needs.{needs}
 use borrow.Author.Tests.{ne-eqb}
-use Rattle.lexer.specs.Chars.{classOf, is, among, layoutChar, tab, newline, space}
+use Rattle.lexer.specs.Chars.{classOf, is, among, layoutChar, layoutChars, tab, newline, carriageReturn, space}
 use Rattle.lexer.proofs.Table.{agreed}
 use Rattle.lexer.proofs.classes.is_layout.Statement.{statement}
 use Rattle.lexer.proofs.classes.is_layout.Tie as tie
@@ -14,11 +13,11 @@ module _ (b : ℕ) where
   key : (n : ℕ) (r : Bool) → b ≡ n → r ≡ is layoutChar n → r ≡ is layoutChar b
   key n r e f = cc
 
-  other : b < 256 → (b ≡ tab → ⊥) → (b ≡ newline → ⊥) → (b ≡ space → ⊥) → false ≡ is layoutChar b
+  other : b < 256 → (b ≡ tab → ⊥) → (b ≡ newline → ⊥) → (b ≡ carriageReturn → ⊥) → (b ≡ space → ⊥) → false ≡ is layoutChar b
   unfolding classOf
-  other h a₁ a₂ a₃ =
-      let e : among b (tab ∷ newline ∷ space ∷ []) ≡ false = simp (ne-eqb _ _ a₁, ne-eqb _ _ a₂, ne-eqb _ _ a₃) in
-      sym e ∙ agreed (λ x. among x (tab ∷ newline ∷ space ∷ [])) (is layoutChar) 256 tt b h
+  other h a₁ a₂ a₃ a₄ =
+      let e : among b layoutChars ≡ false = simp (ne-eqb _ _ a₁, ne-eqb _ _ a₂, ne-eqb _ _ a₃, ne-eqb _ _ a₄) in
+      sym e ∙ agreed (λ x. among x layoutChars) (is layoutChar) 256 tt b h
 
 ruleset ways = (key, other, needs)
 
@@ -39,5 +38,9 @@ returns-4 : tie.Need-returns-4
 unfolding classOf
 returns-4 c = search ways
 
+returns-5 : tie.Need-returns-5
+unfolding classOf
+returns-5 c = search ways
+
 pub is-layout-spec : {M : Type 1} → statement M
-is-layout-spec = tie.close (tie.spec returns returns-2 returns-3 returns-4)
+is-layout-spec = tie.close (tie.spec returns returns-2 returns-3 returns-4 returns-5)

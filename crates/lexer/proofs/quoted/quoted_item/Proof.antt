@@ -4,7 +4,7 @@ use mathlib.Core.Path.{_≡_}
 use mathlib.Core.List.{List}
 use borrow.Author.Needs.{needs}
 use borrow.Author.Tests.{eq-eqb, ne-eqb}
-use Rattle.lexer.specs.Chars.{tab, newline, backslash}
+use Rattle.lexer.specs.Chars.{tab, newline, carriageReturn, backslash}
 use Rattle.lexer.specs.Look.{lookahead}
 use Rattle.lexer.specs.Quoted.{escape, quoteTo, itemTo, quotedItem}
 use Rattle.lexer.specs.Refusal.{fault}
@@ -32,10 +32,14 @@ module _ (s : List ℕ) (at q token : ℕ) (r : Look) (e : r ≡ lookahead s at)
       unfolding itemTo
       tabbed g = cc
 
-    module _ (g : b ≡ newline → ⊥) (h : b ≡ tab → ⊥) where
+      returned : b ≡ carriageReturn → i ≡ quotedItem q token s at
+      unfolding itemTo
+      returned g = cc
+
+    module _ (g : b ≡ newline → ⊥) (h : b ≡ tab → ⊥) (o : b ≡ carriageReturn → ⊥) where
       quote : (i : Item) → b ≡ q → i ≡ quoteTo q (at + 1) (lookahead s (at + 1)) → i ≡ quotedItem q token s at
       unfolding itemTo
-      quote i k j = cc (ne-eqb b newline g, ne-eqb b tab h, eq-eqb b q k)
+      quote i k j = cc (ne-eqb b newline g, ne-eqb b tab h, ne-eqb b carriageReturn o, eq-eqb b q k)
 
       module _ (k : b ≡ q → ⊥) where
         escaped : (i : Item) → b ≡ backslash → i ≡ escape token s (at + 1) → i ≡ quotedItem q token s at
@@ -44,9 +48,9 @@ module _ (s : List ℕ) (at q token : ℕ) (r : Look) (e : r ≡ lookahead s at)
 
         plain : (b ≡ backslash → ⊥) → Char b (at + 1) ≡ quotedItem q token s at
         unfolding itemTo
-        plain l = cc (ne-eqb b newline g, ne-eqb b tab h, ne-eqb b q k, ne-eqb b backslash l)
+        plain l = cc (ne-eqb b newline g, ne-eqb b tab h, ne-eqb b carriageReturn o, ne-eqb b q k, ne-eqb b backslash l)
 
-ruleset ways = (refuse, line, tabbed, quote, escaped, plain, look-fits, needs)
+ruleset ways = (refuse, line, tabbed, returned, quote, escaped, plain, look-fits, needs)
 
 -- answers
 lookahead-char-requires : tie.Need-lookahead-char-requires
@@ -70,14 +74,20 @@ bad-quoted-requires-2 c κs = search ways
 returns-2 : tie.Need-returns-2
 returns-2 c = search ways
 
+bad-quoted-requires-3 : tie.Need-bad-quoted-requires-3
+bad-quoted-requires-3 c κs = search ways
+
+returns-3 : tie.Need-returns-3
+returns-3 c = search ways
+
 add-after-quote : tie.Need-add-after-quote
 add-after-quote c = search ways
 
 after-quote-requires : tie.Need-after-quote-requires
 after-quote-requires c κs = search ways
 
-returns-3 : tie.Need-returns-3
-returns-3 c = search ways
+returns-4 : tie.Need-returns-4
+returns-4 c = search ways
 
 add-escape-sequence : tie.Need-add-escape-sequence
 add-escape-sequence c = search ways
@@ -85,17 +95,17 @@ add-escape-sequence c = search ways
 escape-sequence-requires : tie.Need-escape-sequence-requires
 escape-sequence-requires c κs = search ways
 
-returns-4 : tie.Need-returns-4
-returns-4 c = search ways
+returns-5 : tie.Need-returns-5
+returns-5 c = search ways
 
 add-t12 : tie.Need-add-t12
 add-t12 c = search ways
 
-returns-5 : tie.Need-returns-5
-returns-5 c = search ways
-
 returns-6 : tie.Need-returns-6
 returns-6 c = search ways
+
+returns-7 : tie.Need-returns-7
+returns-7 c = search ways
 
 pub quoted-item-spec : {M : Type 1} → statement M
 quoted-item-spec =
@@ -108,12 +118,14 @@ quoted-item-spec =
     returns
     bad-quoted-requires-2
     returns-2
+    bad-quoted-requires-3
+    returns-3
     add-after-quote
     after-quote-requires
-    returns-3
+    returns-4
     add-escape-sequence
     escape-sequence-requires
-    returns-4
-    add-t12
     returns-5
-    returns-6)
+    add-t12
+    returns-6
+    returns-7)
