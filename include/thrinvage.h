@@ -4,6 +4,8 @@
  * ffi); what that answer is stands in docs/CLAIMS.md. It allocates nothing, keeps nothing between two calls and writes only what it is lent, so several
  * threads may call at once.
  *
+ * A text is of ASCII. Its lines end with byte 10, or with the bytes 13 and 10, as a file was saved; lines are counted by byte 10, and byte 13 is layout.
+ *
  * What a caller owes is what C's types do not say: a pointer with a length points to that many elements (it may be null where the length is
  * 0), a pointer to a struct points to one, what the function writes overlaps nothing else that it is given, and nothing is changed meanwhile.
  *
@@ -51,7 +53,7 @@ enum thrinvage_refusal {
     THRINVAGE_END_OF_TEXT = 1,      /* a rule needs a character and the text has ended; at the text's length */
     THRINVAGE_UNCLOSED_COMMENT = 2, /* a bracketed comment is not closed, and the text does not end right behind its opening mark; at its slash */
     THRINVAGE_NO_TOKEN = 3,         /* no token of this call starts with this character; at it */
-    THRINVAGE_BAD_QUOTED = 4,       /* a raw newline or tab, or an escape that ISO lacks, in a quoted item or after 0'; at the token */
+    THRINVAGE_BAD_QUOTED = 4,       /* a raw newline, return or tab, or an escape that ISO lacks, in a quoted item or after 0'; at the token */
     THRINVAGE_FOREIGN_BYTE = 5,     /* a byte outside ISO's characters, in comments too; at it */
     THRINVAGE_SET_ASIDE = 6,        /* `_` right after the leading digits, or 0'\ and a newline; at the token */
     THRINVAGE_OUT_OF_LIMIT = 7,     /* a number or an escape out of its limit (below), in a token otherwise whole; at the token */
@@ -84,7 +86,7 @@ enum thrinvage_kind {
     THRINVAGE_BAR = 11,
     THRINVAGE_DOUBLE_BAR = 12,
     THRINVAGE_COMMA = 13,
-    THRINVAGE_END = 14 /* the end mark, with the newline behind it */
+    THRINVAGE_END = 14 /* the end mark, with a newline right behind it; a return (byte 13) there is left, and the newline behind that */
 };
 
 /* A token's field `value_kind`. */
@@ -117,8 +119,8 @@ enum thrinvage_node {
 /* The structs begin with the cursor behind what was read: hand it back in to go on. A text starts at 0, 0, 0. */
 struct thrinvage_token {
     uint64_t offset;     /* of the cursor behind the token, where its span ends */
-    uint64_t line;       /* newlines before that cursor */
-    uint64_t column;     /* characters since the last of them */
+    uint64_t line;       /* newlines (byte 10) before that cursor */
+    uint64_t column;     /* characters since the last of them, returns (byte 13) among them */
     uint64_t refused_at; /* the refusal's offset, after a refusal; else 0 */
     uint64_t kind;       /* enum thrinvage_kind */
     uint64_t start;      /* where the token starts, behind layout and comments */
@@ -170,12 +172,12 @@ uint32_t thrinvage_list_clause(const uint8_t *text, size_t length, size_t offset
  * A text that was cut between two clauses, in a `%` comment, or behind a dot that then ends a clause (`X is 1.` of `X is 1.5. `) looks whole: only a last
  * clause that was agreed on, as `end_of_file.`, tells those.
  *
- * Returns 1 if nothing but blanks, tabs, newlines and whole comments stands behind the offset, else 0. It is no part of the archive, and is
+ * Returns 1 if nothing but blanks, tabs, newlines, returns and whole comments stands behind the offset, else 0. It is no part of the archive, and is
  * tested, not proved: examples/run compares it with the token call. */
 static inline int thrinvage_only_layout(const uint8_t *text, size_t length, size_t offset) {
     while (offset < length) {
         uint8_t byte = text[offset++];
-        if (byte == ' ' || byte == '\t' || byte == '\n')
+        if (byte == ' ' || byte == '\t' || byte == '\n' || byte == '\r')
             continue;
         if (byte == '%') {
             while (offset < length && text[offset] != '\n')

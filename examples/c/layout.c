@@ -1,4 +1,4 @@
-/* Compares thrinvage_only_layout with the token call, on every text of up to six bytes out of twelve. A newline and a comma are put behind the text:
+/* Compares thrinvage_only_layout with the token call, on every text of up to six bytes out of thirteen. A newline and a comma are put behind the text:
  * the comma is then the first token exactly if nothing but layout stands before it. Prints the counts; status 1 says that something differs.
  */
 #include <stdio.h>
@@ -6,7 +6,7 @@
 #include "thrinvage.h"
 
 #define LONGEST 6
-static const uint8_t BYTES[] = {' ', '\t', '\n', '%', '/', '*', 'a', '0', '.', '\'', '\\', 128};
+static const uint8_t BYTES[] = {' ', '\t', '\n', '\r', '%', '/', '*', 'a', '0', '.', '\'', '\\', 128};
 
 static unsigned long texts, of_layout, differ;
 

@@ -1,4 +1,4 @@
-//! Compares `only_layout_behind` with the token call, on every text of up to six bytes out of twelve, and `Tokens::ended_whole` too. A newline and a
+//! Compares `only_layout_behind` with the token call, on every text of up to six bytes out of thirteen, and `Tokens::ended_whole` too. A newline and a
 //! comma are put behind the text: the comma is then the first token exactly if nothing but layout stands before it, and the token before the comma is an
 //! end mark, or there is none, exactly if the text was whole. Prints the counts; status 1 says that something differs.
 mod thrinvage;
@@ -7,7 +7,7 @@ use std::process::ExitCode;
 use thrinvage::{Cursor, END_OF_TEXT, Kind, Scanner, next_token, only_layout_behind, tokens};
 
 const LONGEST: usize = 6;
-const BYTES: &[u8] = b" \t\n%/*a0.'\\\x80";
+const BYTES: &[u8] = b" \t\n\r%/*a0.'\\\x80";
 
 #[derive(Default)]
 struct Counts {

@@ -215,14 +215,14 @@ impl RawClause {
     }
 }
 
-/// Whether nothing but layout stands behind the cursor: blanks, tabs, newlines and whole comments. Where the clause or the line call is refused by 1 at
-/// this cursor, the text is whole exactly if this holds; else its last clause was cut off.
+/// Whether nothing but layout stands behind the cursor: blanks, tabs, newlines, returns and whole comments. Where the clause or the line call is refused by
+/// 1 at this cursor, the text is whole exactly if this holds; else its last clause was cut off.
 pub fn only_layout_behind(text: &[u8], at: Cursor) -> bool {
     let mut rest = text.get(at.offset..).unwrap_or_default();
     loop {
         let behind = match rest {
             [] => return true,
-            [b' ' | b'\t' | b'\n', behind @ ..] => Some(behind),
+            [b' ' | b'\t' | b'\n' | b'\r', behind @ ..] => Some(behind),
             [b'%', comment @ ..] => behind_first(b"\n", comment).or(Some(&[])), // it may end with the text
             [b'/', b'*', comment @ ..] => behind_first(b"*/", comment),
             _ => None,

@@ -26,7 +26,7 @@ PREFIX_OPERATORS = {name: (priority, kind) for priority, kind, names in (
 COMMA = (1000, "xfy")
 
 SOLO = {"(": "open_ct", ")": "close", "[": "open_list", "]": "close_list", "{": "open_curly", "}": "close_curly", ",": "comma"}
-LAYOUT = re.compile(r"(?:[ \t\n]|%[^\n]*(?:\n|$)|/\*.*?\*/)*", re.S)
+LAYOUT = re.compile(r"(?:[ \t\r\n]|%[^\n]*(?:\n|$)|/\*.*?\*/)*", re.S)
 GRAPHIC = re.compile(r"[#$&*+\-./:<=>?@^~\\]+")
 WORD = re.compile(r"[A-Za-z0-9_]+")
 NUMBER = re.compile(r"0'(?:\\x[0-9a-fA-F]+\\|\\[0-7]+\\|\\[abfnrtv\\'\"`]|''|[ -&(-\[\]-~])|0x[0-9a-fA-F]+|0o[0-7]+|0b[01]+|[0-9]+(?:\.[0-9]+(?:[eE][+-]?[0-9]+)?)?")
@@ -67,7 +67,7 @@ def next_token(text, at):
     if start == len(text) or text.startswith("/*", start):
         raise NotMine
     c, behind = text[start], text[start + 1:start + 2]
-    if c == "." and (not behind or behind in " \t\n%"):
+    if c == "." and (not behind or behind in " \t\r\n%"):
         return Token("end", ".", start, start + 1 + (behind == "\n"))
     if c in SOLO:
         return Token("open" if c == "(" and start > at else SOLO[c], c, start, start + 1)
@@ -82,7 +82,7 @@ def next_token(text, at):
     else:
         raise NotMine
     end, spelling = found.end(), found[0]
-    if end == len(text) or not (text[end] in "\t\n" or " " <= text[end] <= "~"):
+    if end == len(text) or not (text[end] in "\t\r\n" or " " <= text[end] <= "~"):
         raise NotMine
     if kind == "number" and doubtful(spelling, text[end]):
         raise NotMine

@@ -2,7 +2,7 @@
 from clauses import OPERATORS
 from grammar import INFIX_OPERATORS, PREFIX_OPERATORS
 
-MANY = ["a", "b", "X", "1", "-1", "2.5", "'q r'", '"s"', "'-'", "','", "'is'", "(", " (", ")", "[", "]", "{", "}", ",", "|", "||", "f(", "-(", "!", ";(", "/* c */", "\n"]
+MANY = ["a", "b", "X", "1", "-1", "2.5", "'q r'", '"s"', "'-'", "','", "'is'", "(", " (", ")", "[", "]", "{", "}", ",", "|", "||", "f(", "-(", "!", ";(", "/* c */", "\n", "\r\n"]
 PREFIXES = sorted(PREFIX_OPERATORS)
 ROLES = {name: str((INFIX_OPERATORS.get(name), PREFIX_OPERATORS.get(name))) for name in OPERATORS}
 ROWS = [[name for name in OPERATORS if ROLES[name] == roles] for roles in sorted(set(ROLES.values()))]

@@ -47,17 +47,17 @@ fn families() -> Vec<Family> {
     let family = |name, before, alphabet: &[u8], after, share| Family { name, before, alphabet: alphabet.to_vec(), after, share };
     vec![
         family("every byte of a class", b"", &every, b"", 4),
-        family("one or two of each class", b"", b" \n\t018aexA_+./*\\!(,|%'\"`", b"", 4),
+        family("one or two of each class", b"", b" \n\t\r018aexA_+./*\\!(,|%'\"`", b"", 4),
         family("foreign bytes among them", b"", b"\x01\x80 \n0x'\".e+a/*%\\|", b"", 1),
         family("numbers", b"", b"019.e+-_xob' a", b"", 3),
         family("floats", b"1.", b"019e+-.E ", b"", 2),
-        family("behind 0'", b"0'", b"'\"\\x17a \n`0t", b"", 2),
-        family("quoted", b"'", b"'\"\\x18\nan ", b"", 3),
+        family("behind 0'", b"0'", b"'\"\\x17a \n\r`0t", b"", 2),
+        family("quoted", b"'", b"'\"\\x18\n\ran ", b"", 3),
         family("double quoted", b"\"", b"\"'\\x4g\n ", b"", 2),
         family("escapes", b"'\\", b"0178xaFg\\n'q\n\" ", b"' ", 2),
-        family("comments", b"", b"/*% \na.", b"", 2),
+        family("comments", b"", b"/*% \n\ra.", b"", 2),
         family("inside a comment", b"/*", b"/* \n%a", b"", 2),
-        family("marks and brackets", b"", b".|([ \n%,)!", b"", 2),
+        family("marks and brackets", b"", b".|([ \n\r%,)!", b"", 2),
     ]
 }
 
@@ -133,12 +133,12 @@ const NAMES: [&str; 24] = [
     "!", ";", "=/*", "-",
 ];
 const PUNCTUATION: [&str; 12] = ["(", ")", "[", "]", "{", "}", ",", "|", "||", "|||", "()", "[]"];
-const LAYOUT: [&str; 12] = [" ", " ", " ", " ", "\n", "\n", "\t", "  ", " \n ", "% c\n", "/* c */", "/**/"];
+const LAYOUT: [&str; 14] = [" ", " ", " ", " ", "\n", "\n", "\t", "  ", " \n ", "\r\n", "% c\n", "% c\r\n", "/* c */", "/**/"];
 const GOOD_ESCAPES: [&str; 20] = [
     "\\\\", "\\'", "\\\"", "\\`", "\\a", "\\b", "\\f", "\\n", "\\r", "\\t", "\\v", "\\101\\", "\\x41\\", "\\1\\", "\\177\\",
     "\\x7f\\", "\\x7F\\", "\\x1\\", "\\0000101\\", "\\x0000041\\",
 ];
-const BAD_ESCAPES: [&str; 30] = [
+const BAD_ESCAPES: [&str; 31] = [
     "\\q",
     "\\e",
     "\\s",
@@ -168,14 +168,15 @@ const BAD_ESCAPES: [&str; 30] = [
     "\\x4g\\",
     "\\",
     "\\\t",
+    "\\\r\n",
     "\\77777777777777777777777777777777\\",
 ];
-const COMMENTS: [&str; 14] = [
-    "/* c */", "/**/", "/***/", "/****/", "/*/*/", "/* /* */", "/* * / */", "/*\n*/", "/* 'a */", "% c\n", "%\n", "%%\n",
-    "% /* c\n", "/* % */",
+const COMMENTS: [&str; 15] = [
+    "/* c */", "/**/", "/***/", "/****/", "/*/*/", "/* /* */", "/* * / */", "/*\n*/", "/*\r\n*/", "/* 'a */", "% c\n", "%\n",
+    "%%\n", "% /* c\n", "/* % */",
 ];
 const UNCLOSED: [&str; 10] = ["/*", "/* ", "/*/", "/**", "/* * /", "/*\n", "/* c", "/* **", "/", "% c"];
-const MARKS: [&str; 7] = [". ", ".\n", ".\t", ".%", ".% c\n", ".\n\n", "."];
+const MARKS: [&str; 8] = [". ", ".\n", ".\t", ".\r\n", ".%", ".% c\n", ".\n\n", "."];
 
 /// Integers around which something changes: limits of 01, of the Rust's fixnums, of machine words.
 const EDGES: [u128; 20] = [
@@ -237,7 +238,7 @@ impl Maker {
                     3 => format!("0''{c}"),
                     _ if clean => format!("0'{escape}{c}"),
                     4 => format!("0'{}", self.random.pick(&BAD_ESCAPES)),
-                    _ => format!("0'{}", self.random.pick(&["\n", "\t", "\\\n", "\\\n'", "\\\nx"])),
+                    _ => format!("0'{}", self.random.pick(&["\n", "\t", "\r\n", "\\\n", "\\\n'", "\\\nx", "\\\r\n"])),
                 }
             }
             6 if !clean => format!("{}_{}", self.integer(true), self.random.pick(&["", "1", " 1", "000", "x"])),
@@ -289,7 +290,7 @@ impl Maker {
                 7 => made.extend(b"\\\n"),
                 8 => made.push(self.random.pick(b"'\"`")),
                 9 if !clean => made.extend(self.random.pick(&BAD_ESCAPES).bytes()),
-                10 if !clean => made.push(self.random.pick(b"\n\t\x01")),
+                10 if !clean => made.push(self.random.pick(b"\n\t\r\x01")),
                 _ => made.extend(self.some_of(ALPHANUMERIC, 4)),
             }
         }
@@ -310,7 +311,7 @@ impl Maker {
             15..=16 => self.random.pick(&PUNCTUATION).into(),
             17 => self.random.pick(&COMMENTS).into(),
             18 if !clean && self.random.chance(40) => self.random.pick(&["`", "`a`", "`\\x41\\`", "`a", "``"]).into(),
-            18 if !clean && self.random.chance(50) => vec![self.random.pick(b"\x00\x01\x0b\x0c\r\x1f\x7f\x80\xc3\xff")],
+            18 if !clean && self.random.chance(50) => vec![self.random.pick(b"\x00\x01\x0b\x0c\x0e\x1f\x7f\x80\xc3\xff")],
             _ => self.random.pick(&MARKS).into(),
         }
     }
@@ -340,13 +341,13 @@ impl Maker {
             if self.random.chance(5) {
                 // is the byte that follows looked at?
                 text.truncate(at);
-                text.push(self.random.pick(b"\x01\r\x80"));
+                text.push(self.random.pick(b"\x01\r\x7f\x80"));
                 return;
             }
             let byte = if self.random.chance(3) {
                 self.random.below(256) as u8
             } else {
-                self.random.pick(b" \n\t0189aexobA_+-./*\\!(,|%'\"`")
+                self.random.pick(b" \n\t\r0189aexobA_+-./*\\!(,|%'\"`")
             };
             match self.random.below(5) {
                 0 => text.truncate(at),
@@ -363,6 +364,10 @@ impl Maker {
             0..=2 if !self.real.is_empty() => self.real[self.random.below(self.real.len())].clone(),
             _ => self.written(),
         };
+        if self.random.chance(10) {
+            // as a laptop saves it
+            text = text.split(|&c| c == b'\n').collect::<Vec<_>>().join(&b"\r\n"[..]);
+        }
         if self.random.chance(25) {
             self.damage(&mut text);
         }
@@ -441,6 +446,7 @@ pub fn long_cases() -> Vec<Case> {
             ("\"\\x", b'0', "41\\\" "),
             ("", b' ', "a "),
             ("", b'\n', "a "),
+            ("", b'\r', "a "),
             ("%", b'c', ""),
             ("/*", b'*', "/"),
             ("/*", b'*', ""),

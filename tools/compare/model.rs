@@ -1,4 +1,5 @@
-//! Document 01's tokenizer, read plainly: a function a rule, in 01's order, from the words of 01 and of the settled open points (T1 to T26).
+//! Document 01's tokenizer, read plainly: a function a rule, in 01's order, from the words of 01, of request 1 of document 02 and of the
+//! settled open points (T1 to T26, R1.1 to R1.7).
 //! It shares no code with lexer.rs, but its author had read lexer.rs, and T1 and T2 were settled by it: where all three agree, a misreading
 //! that they share is not ruled out. It stands in for the probe, decides what lies in demand 2's domain, and checks the answers written by
 //! hand. It is no part of what is proved.
@@ -73,7 +74,7 @@ pub enum Call {
 // Bytes: the classes of ISO 6.5.
 
 pub fn is_layout(c: u8) -> bool {
-    matches!(c, b'\t' | b'\n' | b' ')
+    matches!(c, b'\t' | b'\n' | b'\r' | b' ')
 }
 pub fn is_graphic(c: u8) -> bool {
     b"#$&*+-./:<=>?@^~\\".contains(&c)
@@ -278,7 +279,7 @@ impl Reader<'_> {
             b'.' if self.ended(start + 1) => self.punctuation(Kind::End, 1),
             b'.' => match self.look(start + 1)? {
                 b'\n' => self.punctuation(Kind::End, 2),
-                b' ' | b'\t' | b'%' => self.punctuation(Kind::End, 1),
+                b' ' | b'\t' | b'\r' | b'%' => self.punctuation(Kind::End, 1),
                 _ => self.name(first)?,
             },
             _ => self.name(first)?,
@@ -339,6 +340,7 @@ impl Reader<'_> {
         match self.look(at)? {
             b'\\' => self.escape(at + 1),
             b'\n' => Err(self.at_token(Refusal::BadQuoted)),
+            b'\r' => Err(self.at_token(Refusal::BadQuoted)),
             b'\t' => Err(self.bad_quoted("raw tab in a quoted item")),
             c => Ok((c, at + 1)),
         }

@@ -47,7 +47,7 @@ static void add_byte(struct text *text, uint8_t byte)
 
 uint8_t prolog_byte(struct random *random)
 {
-    static const char bytes[] = "aexz AZ_ 0179 '\"`\\ .,|!;()[]{} +-*/:<= %\n\t";
+    static const char bytes[] = "aexz AZ_ 0179 '\"`\\ .,|!;()[]{} +-*/:<= %\n\t\r";
     return (uint8_t)bytes[random_below(random, sizeof bytes - 1)];
 }
 
@@ -59,11 +59,11 @@ static const char *const numbers[] = {"0", "1", "42", "0x1F", "0o17", "0b101", "
 static const char *const strings[] = {"\"\"", "\"abc\"", "\"a\"\"b\"", "\"\\n\\t\\\\\"", "\"'\"", "\"\\\nx\""};
 static const char *const infixes[] = {":-", "-->", ";", "->", ",", "=", "\\=", "==", "is", "<", "=..", ":", "+", "-", "*", "/", "mod", "**", "^", "=:=", "@<"};
 static const char *const prefixes[] = {":-", "?-", "\\+", "-", "\\", "- ", "+"};
-static const char *const layouts[] = {" ", " ", "  ", "\n", "\t", "% c\n", "/* c */", "/**/ ", " /* * / */"};
-static const char *const ends[] = {". ", ".\n", ".\t", ".% c\n", ".\n\n", "."};
+static const char *const layouts[] = {" ", " ", "  ", "\n", "\t", "\r\n", "% c\n", "/* c */", "/**/ ", " /* * / */"};
+static const char *const ends[] = {". ", ".\n", ".\t", ".\r\n", ".% c\n", ".\n\n", "."};
 /* What is refused, or nearly. */
 static const char *const oddities[] = {"9223372036854775808", "1.0e23", "1.0e400", "'\\x80\\'", "'\\0\\'", "0'\\xfffffffff\\", "1_000", "0_", "0'\\\n",
-                                       "'a\nb'", "'a\tb'", "'\\q'", "'\\x41'", "0''", "0x", "0b2", "`a`", "\x01", "\x80", "\r", "\x00z", "/*", "/* a", "'a", "\"a",
+                                       "'a\nb'", "'a\tb'", "'a\\\r\nb'", "'\\q'", "'\\x41'", "0''", "0x", "0b2", "`a`", "\x01", "\x80", "\r", "\x00z", "/*", "/* a", "'a", "\"a",
                                        "||", "|", "a.b", "1.e", "1.0e", "1.0e+", "....", "f()", "[|]", "- (1)", "-1", "- 1", "{}(a)", ",", ")", "%"};
 
 static void add_piece(struct random *random, struct text *text)

@@ -183,7 +183,7 @@ within a b x = leb a x && leb x b
 abbrev pub graphicTokenChars : List ℕ
 graphicTokenChars = 35 ∷ 36 ∷ 38 ∷ star ∷ plus ∷ minus ∷ point ∷ slash ∷ 58 ∷ 60 ∷ 61 ∷ 62 ∷ 63 ∷ 64 ∷ 94 ∷ 126 ∷ backslash ∷ []
 
--- 6.5.4: layout; 02, request 1, adds the carriage return
+-- 6.5.4: tab, newline and space. -- departs: and the carriage return (02, request 1)
 abbrev pub layoutChars : List ℕ
 layoutChars = tab ∷ newline ∷ carriageReturn ∷ space ∷ []
 
