@@ -17,7 +17,7 @@ use Rattle.lexer.specs.Look.{peek, needed, lookahead}
 use Rattle.lexer.specs.Name.{runEnd, alphanumerics, graphics, runToken, nameToken}
 use Rattle.lexer.specs.Number.{radixClosed, radixTo, radixConstant, characterCode, zeroTo, exponentEnds, signTo, letterTo, exponentTo, exponent, float, fractionDigits, fraction, integerTo, numberToken}
 use Rattle.lexer.specs.Number as Number
-use Rattle.lexer.specs.Quoted.{escapeOf, coded, closed, numericEscape, escapeTo, quoteTo, itemTo, quotedItem, Quoted, withChar, outOfLimit, decode}
+use Rattle.lexer.specs.Quoted.{escapeOf, coded, closed, numericEscape, escapeTo, quoteTo, unquotable, itemTo, quotedItem, Quoted, withChar, outOfLimit, decode}
 use Rattle.lexer.specs.Refusal.{fault}
 use Rattle.lexer.specs.Token.{mark, barTo, pointTo, soloTo, floated, valued, numbered, plainToken, plainNumber, plain, Lexeme, lexeme, refused, plainLexeme, quotedTo, quotedLexeme, lexemeTo, afterLayout, readLexeme, answered, notValid, call}
 use Rattle.lexer.specs.declared.refusal.Fault.{Fault}
@@ -231,7 +231,7 @@ module _ (s : List ℕ) (c : Cursor) where
     item-placed q k l (Look.Refused w) e = look-placed k l w e
     item-placed q k l (Look.Byte x) e =
         let m = look-byte s k x e .inside in
-        by-test OfItem (among x (newline ∷ tab ∷ [])) _ _ (λ _. h)
+        by-test OfItem (among x unquotable) _ _ (λ _. h)
         (λ _. by-test OfItem (eqb x q) _ _ (λ _. quote-placed q (k + 1) (omega arith) (lookahead s (k + 1)) refl)
         (λ _. by-test OfItem (eqb x backslash) _ _ (λ _. escape-placed (k + 1) (omega arith) (lookahead s (k + 1)) refl) (λ _. tt)))
 

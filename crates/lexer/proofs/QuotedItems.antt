@@ -12,7 +12,7 @@ use Rattle.lexer.specs.Cursor.{moveTo, Valid}
 use Rattle.lexer.specs.Digits.{isDigit, digitsAt}
 use Rattle.lexer.specs.Items.{stop, on, same}
 use Rattle.lexer.specs.Look.{front, needed, lookahead}
-use Rattle.lexer.specs.Quoted.{escapeOf, coded, closed, numericEscape, escapeTo, escape, quoteTo, itemTo, quotedItem, Quoted, whole, refused, withChar, outOfLimit, itemTurn, quotedTurn, unended, decode, measured, Writes}
+use Rattle.lexer.specs.Quoted.{escapeOf, coded, closed, numericEscape, escapeTo, escape, quoteTo, unquotable, itemTo, quotedItem, Quoted, whole, refused, withChar, outOfLimit, itemTurn, quotedTurn, unended, decode, measured, Writes}
 use Rattle.lexer.specs.Stretch.{inStretch}
 use Rattle.lexer.specs.declared.chars.Look.{Look}
 use Rattle.lexer.specs.declared.cursor.Cursor.{Cursor}
@@ -118,7 +118,7 @@ module _ (q : ℕ) (s : List ℕ) (at : ℕ) where
       go (Look.Refused w) e = tt
       go (Look.Byte x) e =
           let l = look-byte s at x e in
-          choice (among x (newline ∷ tab ∷ carriageReturn ∷ [])) _ _ (λ t. tt)
+          choice (among x unquotable) _ _ (λ t. tt)
           (λ t. let n : x ≡ newline → ⊥ = (λ g. let z : _≡_ {A = ℕ} 0 1 = cc in omega arith) in
           choice (eqb x q) _ _ (λ u. quote-ends (rw (eqb-true x q u) at l) (rw (eqb-true x q u) at n))
           (λ u. choice (eqb x backslash) _ _ (λ v. escape-ends token (rw (eqb-true x backslash v) at l)) (λ v. plain-char s at x l n)))

@@ -65,11 +65,15 @@ unfoldable pub quoteTo : ℕ → ℕ → Look → Item
 quoteTo q at (Look.Refused w) = Refused w
 quoteTo q at (Look.Byte x) = cond (eqb x q) (Char q (at + 1)) (Close at)
 
--- 6.4.2.1: by the character at the front; no layout character but the space is a quoted character
+-- 6.4.2.1: of the layout characters only the space may stand in a quoted item
+abbrev pub unquotable : List ℕ
+unquotable = newline ∷ tab ∷ carriageReturn ∷ []
+
+-- 6.4.2.1: by the character at the front
 unfoldable pub itemTo : ℕ → ℕ → List ℕ → ℕ → Look → Item
 itemTo q token s at (Look.Refused w) = Refused w
 itemTo q token s at (Look.Byte x) =
-    cond (among x (newline ∷ tab ∷ carriageReturn ∷ [])) (Refused (fault BadQuoted token))
+    cond (among x unquotable) (Refused (fault BadQuoted token))
     (cond (eqb x q) (quoteTo q (at + 1) (lookahead s (at + 1)))
     (cond (eqb x backslash) (escape token s (at + 1))
     (Char x (at + 1))))
