@@ -11,6 +11,7 @@ pub mod Numbers
 pub mod Promises
 pub mod QuotedItems
 pub mod Refusals
+pub mod Returns
 pub mod Runs
 pub mod Scans
 pub mod Sets

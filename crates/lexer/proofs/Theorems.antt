@@ -1,6 +1,7 @@
 -- What holds of this crate, in a reader's order: statements, each with the proof that it cites. The calls' contracts, in `src/`, say that each call answers
 -- as its definition in `specs/` does; this page says what the definitions come to. Assumes nothing.
 use mathlib.Core.Path.{_≡_, sym, _∙_, ap}
+use mathlib.Core.Logic.{_⊎_}
 use mathlib.Core.Bool.{Bool, true, false}
 use mathlib.Core.List.{List, [], _∷_, map}
 use Prim.Native.Nat.{ℕ, _+_, _-_, _<_, _≤_}
@@ -16,10 +17,10 @@ use Rattle.lexer.specs.Nearest.{Nearest}
 use Rattle.lexer.specs.Quoted.{Quoted, decode}
 use Rattle.lexer.specs.Refusal.{numberOf, fault}
 use Rattle.lexer.specs.Text.{leaves, nextTokenText, seen, shown, counts, countedText, quotedText}
-use Rattle.lexer.specs.Token.{Text, decoded, lexeme, isComma, readLexeme, nextToken, nextNumberToken}
+use Rattle.lexer.specs.Token.{Text, decoded, lexeme, isComma, readLexeme, call, nextToken, nextNumberToken}
 use Rattle.lexer.specs.declared.refusal.Fault.{Fault}
 use Rattle.lexer.specs.declared.refusal.Refusal.{Refusal}
-use Rattle.lexer.specs.declared.refusal.Refusal.the-variants.{UnclosedComment, ForeignByte}
+use Rattle.lexer.specs.declared.refusal.Refusal.the-variants.{UnclosedComment, BadQuoted, ForeignByte}
 use Rattle.lexer.specs.declared.cursor.Cursor.{Cursor}
 use Rattle.lexer.specs.declared.cursor.Scan.{Scan}
 use Rattle.lexer.specs.declared.float.Floated.{Floated}
@@ -36,6 +37,7 @@ use Rattle.lexer.proofs.Faults.{Placed, refusal-placed, placed-inside}
 use Rattle.lexer.proofs.FirstMark.{Clear, First, first-mark, mark-first, clear-end, clear-foreign}
 use Rattle.lexer.proofs.Promises.{LexemeEnds, lexeme-ends}
 use Rattle.lexer.proofs.Refusals.{all, numbers, number-once}
+use Rattle.lexer.proofs.Returns.{blanked, returns-read, returns-answered}
 use Rattle.lexer.proofs.Specimens.{table, specimens}
 pub use Rattle.lexer.proofs.Spellings.{NameText, quoted, unquoted}
 use Rattle.lexer.proofs.Spellings.{name-text}
@@ -168,6 +170,18 @@ module _ (s : List ℕ) (o : ℕ) where
 
   pub comment-foreign : (i : ℕ) → o + 2 ≤ i → i < length s → Clear s (o + 2) i → is foreignByte (getD s i 0) ≡ true → commentText s o ≡ Scan.Refused (fault ForeignByte i)
   comment-foreign = clear-foreign s o
+
+-- ---- 02, request 1: a carriage return is read as a blank is, except that in a quoted item it is refusal 4
+
+-- by the token call or, where `field`, by the number call
+module _ (field : Bool) (s : List ℕ) where
+  -- what is read is read the same with a blank for each carriage return: the token, where it ends, the text that it stands for
+  pub return-reads : (from : ℕ) (t : Token) (e : ℕ) (x : Text) → readLexeme field s from ≡ lexeme t e x → readLexeme field (blanked s) from ≡ lexeme t e x
+  return-reads = returns-read s field
+
+  -- the answer is the same too, with a new cursor or with a refusal, unless it is refusal 4
+  pub return-answers : (c : Cursor) → (call field (blanked s) c ≡ call field s c) ⊎ ((o : ℕ) × (call field s c ≡ Answer.Refused (fault BadQuoted o) c))
+  return-answers = returns-answered s field
 
 -- ---- 01: "the value is the one double nearest to m times ten to the e, ties to even"
 
