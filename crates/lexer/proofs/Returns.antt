@@ -44,19 +44,20 @@ blank x = cond (eqb x carriageReturn) space x
 abbrev pub blanked : List ℕ → List ℕ
 blanked s = map blank s
 
--- ---- two of a kind
+-- ---- what two texts come to
 
--- the same, or b and r: what a blank and what a carriage return gives
+-- the same, or b and r, where the one text has a blank and the other a carriage return
 data Stays {A : Type 0} (b r : A) : A → A → Type 0 where
   kept : {a : A} → Stays b r a a
   swapped : Stays b r b r
 
 module _ {A B : Type 0} (f : A → B) {b r : A} where
+  -- and so is what f makes of them
   stays-by : {x y : A} → Stays b r x y → Stays (f b) (f r) (f x) (f y)
   stays-by kept = kept
   stays-by swapped = swapped
 
-  -- f does not tell a blank from a carriage return
+  -- it is the same, if f does not tell b from r
   alike : f b ≡ f r → {x y : A} → Stays b r x y → f x ≡ f y
   alike h kept = refl
   alike h swapped = h
@@ -70,10 +71,12 @@ module _ {A : Type 0} {refuse : Fault → A} where
   since : {a b : A} → a ≡ b → Unless refuse a b
   since e = rw e same
 
+  -- by one test of both
   either : {a b c d : A} (t : Bool) → Unless refuse a b → Unless refuse c d → Unless refuse (cond t a c) (cond t b d)
   either true p q = p
   either false p q = q
 
+  -- a rule that passes a refusal on
   through : {B : Type 0} (f : A → B) {a b : A} → Unless refuse a b → Unless (λ w. f (refuse w)) (f a) (f b)
   through f same = same
   through f (four o) = four o
@@ -82,11 +85,11 @@ module _ {A : Type 0} {refuse : Fault → A} where
   or-four same = inl refl
   or-four (four o) = inr (o, refl)
 
--- ---- a byte
+-- ---- a byte: its class and its digit stay
 byte-stays : (x : ℕ) → Stays space carriageReturn (blank x) x
 unfolding blank
 byte-stays x =
-    by-test (λ (y : ℕ). Stays space carriageReturn y x) (eqb x carriageReturn) space x (λ t. rw (eqb-true x carriageReturn t) swapped) (λ _. kept)
+    by-test (λ y. Stays space carriageReturn y x) (eqb x carriageReturn) space x (λ t. rw (eqb-true x carriageReturn t) swapped) (λ _. kept)
 
 class-same : (x : ℕ) → classOf (blank x) ≡ classOf x
 unfolding classOf
@@ -105,7 +108,7 @@ drop-same (suc n) (x ∷ xs) = drop-same n xs
 front-stays : (xs : List ℕ) → Stays (Peek.Byte space) (Peek.Byte carriageReturn) (front (blanked xs)) (front xs)
 unfolding front classOf
 front-stays [] = kept
-front-stays (x ∷ xs) = stays-by (λ (y : ℕ). cond (is foreignByte y) Peek.Foreign (Peek.Byte y)) (byte-stays x)
+front-stays (x ∷ xs) = stays-by (λ y. cond (is foreignByte y) Peek.Foreign (Peek.Byte y)) (byte-stays x)
 
 digits-same : (base v at : ℕ) (xs : List ℕ) → digits base v at (blanked xs) ≡ digits base v at xs
 unfolding digits
@@ -131,7 +134,7 @@ Neither mark = map (eqb space) mark ≡ map (eqb carriageReturn) mark
 begins-same : (mark xs : List ℕ) → Neither mark → beginsWith mark (blanked xs) ≡ beginsWith mark xs
 begins-same [] xs h = refl
 begins-same (k ∷ ks) [] h = refl
-begins-same (k ∷ ks) (x ∷ xs) h = cc (alike (λ (y : ℕ). eqb y k) (cc) (byte-stays x), begins-same ks xs (cc))
+begins-same (k ∷ ks) (x ∷ xs) h = cc (alike (λ y. eqb y k) (cc) (byte-stays x), begins-same ks xs (cc))
 
 past-same : (mark : List ℕ) (none : ℕ → Scan) → Neither mark → (at : ℕ) (xs : List ℕ) → past mark none at (blanked xs) ≡ past mark none at xs
 unfolding past
@@ -147,18 +150,19 @@ module _ {R : Type 0} (P : R → R → Type 0) (turn turn′ : ℕ → Turn R) (
   items-same (suc k) at (x ∷ xs) = items-same k (at + 1) xs
   items-same zero at (x ∷ xs) = turns at _ _ (λ e. items-same (e - (at + 1)) (at + 1) xs)
 
+-- ---- at an offset
 module _ (s : List ℕ) where
   abbrev s′ : List ℕ
   s′ = blanked s
 
-  rest-same : {A : Type 0} (f : List ℕ → A) → ((xs : List ℕ) → f (blanked xs) ≡ f xs) → (at : ℕ) → f (drop at s′) ≡ f (drop at s)
-  rest-same f h at = ap f (drop-same at s) ∙ h (drop at s)
-
   digits-at : (base v at : ℕ) → digitsAt base v s′ at ≡ digitsAt base v s at
-  digits-at base v at = rest-same (digits base v at) (digits-same base v at) at
+  digits-at base v at = rw (drop-same at s) (digits-same base v at (drop at s))
 
   run-at : (lo hi at : ℕ) → runEnd lo hi at (drop at s′) ≡ runEnd lo hi at (drop at s)
-  run-at lo hi at = rest-same (runEnd lo hi at) (run-same lo hi at) at
+  run-at lo hi at = rw (drop-same at s) (run-same lo hi at (drop at s))
+
+  past-at : (mark : List ℕ) (none : ℕ → Scan) → Neither mark → (at : ℕ) → past mark none at (drop at s′) ≡ past mark none at (drop at s)
+  past-at mark none h at = rw (drop-same at s) (past-same mark none h at (drop at s))
 
   peek-stays : (at : ℕ) → Stays (Peek.Byte space) (Peek.Byte carriageReturn) (peek s′ at) (peek s at)
   peek-stays at = rw (drop-same at s) (front-stays (drop at s))
@@ -167,7 +171,7 @@ module _ (s : List ℕ) where
   unfolding needed
   look-stays at = stays-by (needed at) (peek-stays at)
 
-  -- ---- a rule that goes by a peek or by a look
+  -- a rule that goes by a peek, or by a look: what stays there, and at last what the two bytes come to
   module _ {A : Type 0} (P : A → A → Type 0) where
     by-peek : (rule : List ℕ → Peek → A) → P (rule s′ Peek.End) (rule s Peek.End) → P (rule s′ Peek.Foreign) (rule s Peek.Foreign)
         → ((x : ℕ) → P (rule s′ (Peek.Byte x)) (rule s (Peek.Byte x))) → P (rule s′ (Peek.Byte space)) (rule s (Peek.Byte carriageReturn)) → (at : ℕ)
@@ -184,24 +188,23 @@ module _ (s : List ℕ) where
         → ((x : ℕ) → P (rule s′ (Look.Byte x)) (rule s (Look.Byte x))) → P (rule s′ (Look.Byte space)) (rule s (Look.Byte carriageReturn)) → (at : ℕ)
         → P (rule s′ (lookahead s′ at)) (rule s (lookahead s at))
     unfolding needed
-    by-look rule f h e at = by-peek (λ (z : List ℕ) (p : Peek). rule z (needed at p)) (f _) (f _) h e at
+    by-look rule f h e at = by-peek (λ z p. rule z (needed at p)) (f _) (f _) h e at
 
   -- ---- layout
   comment-same : (o : ℕ) → bracketedComment s′ o ≡ bracketedComment s o
   unfolding commentOpened
   comment-same o =
-      let text = rest-same (past (star ∷ slash ∷ []) (unclosed o) (o + 2)) (past-same (star ∷ slash ∷ []) (unclosed o) refl (o + 2)) (o + 2) in
-      by-look _≡_ (λ (z : List ℕ). commentOpened z o) (λ w. refl) (λ x. text) text (o + 2)
+      let text = past-at (star ∷ slash ∷ []) (unclosed o) refl (o + 2) in
+      by-look _≡_ (λ z. commentOpened z o) (λ w. refl) (λ x. text) text (o + 2)
 
   slash-same : (at : ℕ) → slashed s′ at (lookahead s′ (at + 1)) ≡ slashed s at (lookahead s (at + 1))
   unfolding slashed
-  slash-same at = by-look _≡_ (λ (z : List ℕ). slashed z at) (λ w. refl) (λ x. rw (comment-same at)) refl (at + 1)
+  slash-same at = by-look _≡_ (λ z. slashed z at) (λ w. refl) (λ x. rw (comment-same at)) refl (at + 1)
 
   text-same : (at : ℕ) → layoutText s′ at ≡ layoutText s at
   unfolding layoutTextOf classOf
   text-same at =
-      let line = rest-same (past (newline ∷ []) Scan.Stop (at + 1)) (past-same (newline ∷ []) Scan.Stop refl (at + 1)) (at + 1) in
-      by-look _≡_ (λ (z : List ℕ). layoutTextOf z at) (λ w. refl) (λ x. rw (line, slash-same at)) refl at
+      by-look _≡_ (λ z. layoutTextOf z at) (λ w. refl) (λ x. rw (past-at (newline ∷ []) Scan.Stop refl (at + 1), slash-same at)) refl at
 
   layout-same : (at : ℕ) → layoutEnd s′ at ≡ layoutEnd s at
   layout-same at =
@@ -216,15 +219,16 @@ module _ (s : List ℕ) where
 
     escape-same : (at : ℕ) → escape token s′ at ≡ escape token s at
     unfolding escapeTo escapeOf digitOf
-    escape-same at = by-look _≡_ (λ (z : List ℕ). escapeTo token z at) (λ w. refl) (λ x. rw (numeric-same 8 at, numeric-same 16 (at + 1))) refl at
+    escape-same at = by-look _≡_ (λ z. escapeTo token z at) (λ w. refl) (λ x. rw (numeric-same 8 at, numeric-same 16 (at + 1))) refl at
 
     -- the one rule that tells the two apart
     item-same : (at : ℕ) → Unless Item.Refused (quotedItem q token s′ at) (quotedItem q token s at)
     unfolding itemTo quoteTo
     item-same at =
         let quote = alike (quoteTo q (at + 1)) (rw apart) (look-stays (at + 1)) in
-        by-look (Unless Item.Refused) (λ (z : List ℕ). itemTo q token z at) (λ w. same) (λ x. since (rw (quote, escape-same (at + 1)))) (four token) at
+        by-look (Unless Item.Refused) (λ z. itemTo q token z at) (λ w. same) (λ x. since (rw (quote, escape-same (at + 1)))) (four token) at
 
+    -- a refusal ends the token, another item is passed
     turn-same : {i j : Item} → Unless Item.Refused i j → (next next′ : ℕ → Quoted) → ((e : ℕ) → Unless Quoted.refused (next e) (next′ e))
         → Unless Quoted.refused (after (itemTurn token i) next) (after (itemTurn token j) next′)
     unfolding after itemTurn withChar outOfLimit
@@ -243,11 +247,12 @@ module _ (s : List ℕ) where
   -- ---- numbers
   radix-same : (base at : ℕ) → radixConstant base s′ at ≡ radixConstant base s at
   unfolding radixTo radixClosed digitOf
-  radix-same base at =
-      let d = digitsAt base 0 s (at + 2) in
-      let byte : (x : ℕ) → radixTo base s′ at (Look.Byte x) ≡ radixTo base s at (Look.Byte x) =
-      λ x. rw (digits-at base 0 (at + 2), alike (radixClosed (Integer (d .value)) (d .end)) refl (peek-stays (d .end))) in
-      by-look _≡_ (λ (z : List ℕ). radixTo base z at) (λ w. refl) byte (byte space) (at + 2)
+  radix-same base at = by-look _≡_ (λ z. radixTo base z at) (λ w. refl) byte (byte space) (at + 2)
+    where
+      byte : (x : ℕ) → radixTo base s′ at (Look.Byte x) ≡ radixTo base s at (Look.Byte x)
+      byte x =
+          let d = digitsAt base 0 s (at + 2) in
+          rw (digits-at base 0 (at + 2), alike (radixClosed (Integer (d .value)) (d .end)) refl (peek-stays (d .end)))
 
   exponent-digits : (sign : Bool) (at : ℕ) → exponentDigits s′ sign at ≡ exponentDigits s sign at
   unfolding exponentEnds
@@ -255,22 +260,22 @@ module _ (s : List ℕ) where
 
   sign-same : (sign : Bool) (at : ℕ) → signTo s′ sign at (peek s′ at) ≡ signTo s sign at (peek s at)
   unfolding signTo digitOf
-  sign-same sign at = by-peek _≡_ (λ (z : List ℕ). signTo z sign at) refl refl (λ x. rw (exponent-digits sign at)) refl at
+  sign-same sign at = by-peek _≡_ (λ z. signTo z sign at) refl refl (λ x. rw (exponent-digits sign at)) refl at
 
   letter-same : (at : ℕ) → letterTo s′ at (peek s′ at) ≡ letterTo s at (peek s at)
   unfolding letterTo signTo digitOf
   letter-same at =
-      by-peek _≡_ (λ (z : List ℕ). letterTo z at) refl refl (λ x. rw (sign-same false (at + 1), sign-same true (at + 1), exponent-digits false at)) refl at
+      by-peek _≡_ (λ z. letterTo z at) refl refl (λ x. rw (sign-same false (at + 1), sign-same true (at + 1), exponent-digits false at)) refl at
 
   exponent-same : (at : ℕ) → exponent s′ at ≡ exponent s at
   unfolding exponentTo
-  exponent-same at = by-peek _≡_ (λ (z : List ℕ). exponentTo z at) refl refl (λ x. rw (letter-same (at + 1))) refl at
+  exponent-same at = by-peek _≡_ (λ z. exponentTo z at) refl refl (λ x. rw (letter-same (at + 1))) refl at
 
   point-same : (d : Digits) → Number.pointTo s′ d (peek s′ (d .end + 1)) ≡ Number.pointTo s d (peek s (d .end + 1))
   unfolding Number.pointTo digitOf
   point-same d =
       let fraction = exponent-same (digitsAt 10 (d .value) s (d .end + 1) .end) in
-      by-peek _≡_ (λ (z : List ℕ). Number.pointTo z d) refl refl (λ x. rw (digits-at 10 (d .value) (d .end + 1), fraction)) refl (d .end + 1)
+      by-peek _≡_ (λ z. Number.pointTo z d) refl refl (λ x. rw (digits-at 10 (d .value) (d .end + 1), fraction)) refl (d .end + 1)
 
   -- ---- the token at `at`
   module _ (at : ℕ) where
@@ -286,7 +291,7 @@ module _ (s : List ℕ) where
     unfolding integerTo zeroTo
     number-same =
         let d = digitsAt 10 0 s at in
-        rw (digits-at 10 0 at) (by-peek (Unless NumberToken.Refused) (λ (z : List ℕ). integerTo z at d) same same
+        rw (digits-at 10 0 at) (by-peek (Unless NumberToken.Refused) (λ z. integerTo z at d) same same
         (λ x. either (eqb x underscore) same
         (either (eqb x point) (since (point-same d)) (either (eqb (d .end) (at + 1) && eqb (d .value) 0) (zero-same x) same))) same (d .end))
 
@@ -296,7 +301,7 @@ module _ (s : List ℕ) where
 
     end-same : endToken s′ at ≡ endToken s at
     unfolding pointTo classOf
-    end-same = by-peek _≡_ (λ (z : List ℕ). pointTo z at) refl refl (λ x. rw (name-same point)) refl (at + 1)
+    end-same = by-peek _≡_ (λ z. pointTo z at) refl refl (λ x. rw (name-same point)) refl (at + 1)
 
     solo-same : (x : ℕ) (m : Mark) → soloTo s′ at x m ≡ soloTo s at x m
     unfolding soloTo barTo
@@ -313,7 +318,7 @@ module _ (s : List ℕ) where
     token-same : (field layout : Bool) → Unless refused (lexemeTo field s′ at layout (lookahead s′ at)) (lexemeTo field s at layout (lookahead s at))
     unfolding lexemeTo quotedLexeme quotedTo plainLexeme plainToken plainNumber nameToken classOf
     token-same field layout =
-        by-look (Unless refused) (λ (z : List ℕ). lexemeTo field z at layout) (λ w. same)
+        by-look (Unless refused) (λ z. lexemeTo field z at layout) (λ w. same)
         (λ x. either (is quoteChar x)
         (either (eqb x singleQuote) (through (quotedTo Name at) (decode-same singleQuote at refl (at + 1)))
         (either field same (either (eqb x doubleQuote) (through (quotedTo String at) (decode-same doubleQuote at refl (at + 1))) same)))
@@ -329,6 +334,7 @@ module _ (s : List ℕ) where
     lexeme-same : (from : ℕ) → Unless refused (readLexeme field s′ from) (readLexeme field s from)
     lexeme-same from = rw (layout-same from) (after-layout from (layoutEnd s from))
 
+    -- what is read
     pub returns-read : (from : ℕ) (t : Token) (e : ℕ) (x : Text) → readLexeme field s from ≡ lexeme t e x → readLexeme field (blanked s) from ≡ lexeme t e x
     returns-read from t e x f = ⊎-elim (λ g. g ∙ f) (λ g. let h = g .1 in cc) (or-four (lexeme-same from))
 
@@ -339,6 +345,7 @@ module _ (s : List ℕ) where
       answer-same (same {a = refused w}) = same
       answer-same (same {a = lexeme t e x}) = since (rw (drop-same (c .offset) s, walk-same (e - c .offset) (drop (c .offset) s) c))
 
+      -- what is answered
       pub returns-answered : (call field (blanked s) c ≡ call field s c) ⊎ ((o : ℕ) × (call field s c ≡ Answer.Refused (fault BadQuoted o) c))
       returns-answered =
-          or-four {refuse = λ (w : Fault). Answer.Refused w c} (rw (length-map s blank) (either (valid (length s) c) (answer-same (lexeme-same (c .offset))) same))
+          or-four {refuse = λ w. Answer.Refused w c} (rw (length-map s blank) (either (valid (length s) c) (answer-same (lexeme-same (c .offset))) same))

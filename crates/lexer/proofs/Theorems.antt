@@ -175,11 +175,11 @@ module _ (s : List ℕ) (o : ℕ) where
 
 -- by the token call or, where `field`, by the number call
 module _ (field : Bool) (s : List ℕ) where
-  -- what is read is read the same with a blank for each carriage return: the token, where it ends, the text that it stands for
+  -- what is read is read the same with a blank for each carriage return: the token, where it ends, and the bytes that a quoted one stands for
   pub return-reads : (from : ℕ) (t : Token) (e : ℕ) (x : Text) → readLexeme field s from ≡ lexeme t e x → readLexeme field (blanked s) from ≡ lexeme t e x
   return-reads = returns-read s field
 
-  -- the answer is the same too, with a new cursor or with a refusal, unless it is refusal 4
+  -- so the answer is the same, the new cursor or the refusal, unless it is refusal 4
   pub return-answers : (c : Cursor) → (call field (blanked s) c ≡ call field s c) ⊎ ((o : ℕ) × (call field s c ≡ Answer.Refused (fault BadQuoted o) c))
   return-answers = returns-answered s field
 
