@@ -4,10 +4,11 @@ use mathlib.Core.Path.{_≡_, refl, _∙_, ap}
 use mathlib.Core.Logic.{_⊎_, inl, inr, ⊎-elim}
 use mathlib.Core.Bool.{Bool, true, false, cond, _&&_}
 use mathlib.Core.List.{List, [], _∷_, map}
+use native.Mathlib.Omega.{arith}
 use borrow.Author.Tests.{eqb-true}
 use lib.Dec.{eqb, ltb}
 use lib.ListN.{length, take, drop, length-map}
-use Rattle.lexer.specs.Chars.{classOf, is, foreignByte, decimalDigit, quoteChar, newline, carriageReturn, space, star, slash, singleQuote, doubleQuote, point, underscore, smallX, smallO, smallB}
+use Rattle.lexer.specs.Chars.{classOf, is, graphicTokenChar, smallLetter, foreignByte, decimalDigit, quoteChar, newline, carriageReturn, space, star, slash, singleQuote, doubleQuote, point, underscore, smallX, smallO, smallB}
 use Rattle.lexer.specs.Cursor.{step, walk, moveTo, valid}
 use Rattle.lexer.specs.Digits.{digitOf, digits, digitsAt}
 use Rattle.lexer.specs.Items.{Turn, after, items}
@@ -26,7 +27,8 @@ use Rattle.lexer.specs.declared.chars.Look.{Look}
 use Rattle.lexer.specs.declared.cursor.Cursor.{Cursor}
 use Rattle.lexer.specs.declared.cursor.Scan.{Scan}
 use Rattle.lexer.specs.declared.digits.Digits.{Digits}
-use Rattle.lexer.specs.declared.kind.Kind.the-variants.{Name, String}
+use Rattle.lexer.specs.declared.kind.Kind.the-variants.{Name, String, End}
+use Rattle.lexer.specs.declared.kind.Value.the-variants.{Nothing}
 use Rattle.lexer.specs.declared.kind.Plain.{Plain}
 use Rattle.lexer.specs.declared.number.Numeral.the-variants.{Integer}
 use Rattle.lexer.specs.declared.number.NumberToken.{NumberToken}
@@ -34,6 +36,7 @@ use Rattle.lexer.specs.declared.quoted.Item.{Item}
 use Rattle.lexer.specs.declared.token.Answer.{Answer}
 use Rattle.lexer.specs.declared.token.Mark.{Mark}
 use Rattle.lexer.specs.declared.token.Token.{Token}
+use Rattle.lexer.proofs.Looks.{Strange}
 use Rattle.lexer.proofs.Spans.{by-test}
 
 -- a blank for a carriage return
@@ -43,6 +46,29 @@ blank x = cond (eqb x carriageReturn) space x
 -- the text with a blank for each carriage return
 abbrev pub blanked : List ℕ → List ℕ
 blanked s = map blank s
+
+-- ---- where it stands
+
+module _ (s : List ℕ) (at : ℕ) where
+  -- behind a dot at `at`
+  pub mark-before : peek s (at + 1) ≡ Peek.Byte carriageReturn → endToken s at ≡ Plain.Whole End Nothing (at + 1)
+  unfolding pointTo classOf
+  mark-before e = rw e
+
+  -- in a quoted item of the token at `token`, raw and behind a backslash
+  module _ (token : ℕ) (e : lookahead s at ≡ Look.Byte carriageReturn) where
+    pub raw-return : (q : ℕ) → quotedItem q token s at ≡ Item.Refused (fault BadQuoted token)
+    unfolding itemTo
+    raw-return q = rw e
+
+    pub escaped-return : escape token s at ≡ Item.Refused (fault BadQuoted token)
+    unfolding escapeTo escapeOf digitOf
+    escaped-return = rw e
+
+  -- where refusal 5 points
+  pub no-return : (x : ℕ) → Strange s at x → x ≡ carriageReturn → ⊥
+  unfolding classOf
+  no-return x f e = let u = f .unknown in let z : _≡_ {A = ℕ} 0 1 = cc in omega arith
 
 -- ---- what two texts come to
 
@@ -297,7 +323,7 @@ module _ (s : List ℕ) where
 
     name-same : (x : ℕ) → nameToken s′ at x ≡ nameToken s at x
     unfolding nameToken
-    name-same x = rw (run-at 0 3 (at + 1), run-at 4 4 (at + 1))
+    name-same x = rw (run-at smallLetter decimalDigit (at + 1), run-at graphicTokenChar graphicTokenChar (at + 1))
 
     end-same : endToken s′ at ≡ endToken s at
     unfolding pointTo classOf
@@ -313,7 +339,7 @@ module _ (s : List ℕ) where
     plain-same field layout x =
         either field (either (is decimalDigit x) (through (numbered true at) number-same) (since (name-same x)))
         (either (is decimalDigit x) (through (numbered false at) number-same)
-        (since (rw (solo-same x (mark layout x), run-at 0 3 (at + 1), end-same, name-same x))))
+        (since (rw (solo-same x (mark layout x), run-at smallLetter decimalDigit (at + 1), end-same, name-same x))))
 
     token-same : (field layout : Bool) → Unless refused (lexemeTo field s′ at layout (lookahead s′ at)) (lexemeTo field s at layout (lookahead s at))
     unfolding lexemeTo quotedLexeme quotedTo plainLexeme plainToken plainNumber nameToken classOf
@@ -335,8 +361,8 @@ module _ (s : List ℕ) where
     lexeme-same from = rw (layout-same from) (after-layout from (layoutEnd s from))
 
     -- what is read
-    pub returns-read : (from : ℕ) (t : Token) (e : ℕ) (x : Text) → readLexeme field s from ≡ lexeme t e x → readLexeme field (blanked s) from ≡ lexeme t e x
-    returns-read from t e x f = ⊎-elim (λ g. g ∙ f) (λ g. let h = g .1 in cc) (or-four (lexeme-same from))
+    pub lexeme-alike : (from : ℕ) (t : Token) (e : ℕ) (x : Text) → readLexeme field s from ≡ lexeme t e x → readLexeme field (blanked s) from ≡ lexeme t e x
+    lexeme-alike from t e x f = ⊎-elim (λ g. g ∙ f) (λ g. let h = g .1 in cc) (or-four (lexeme-same from))
 
     module _ (c : Cursor) where
       answer-same : {a b : Lexeme} → Unless refused a b → Unless (λ w. Answer.Refused w c) (answered s′ c a) (answered s c b)
@@ -346,6 +372,6 @@ module _ (s : List ℕ) where
       answer-same (same {a = lexeme t e x}) = since (rw (drop-same (c .offset) s, walk-same (e - c .offset) (drop (c .offset) s) c))
 
       -- what is answered
-      pub returns-answered : (call field (blanked s) c ≡ call field s c) ⊎ ((o : ℕ) × (call field s c ≡ Answer.Refused (fault BadQuoted o) c))
-      returns-answered =
+      pub answer-alike : (call field (blanked s) c ≡ call field s c) ⊎ ((o : ℕ) × (call field s c ≡ Answer.Refused (fault BadQuoted o) c))
+      answer-alike =
           or-four {refuse = λ w. Answer.Refused w c} (rw (length-map s blank) (either (valid (length s) c) (answer-same (lexeme-same (c .offset))) same))

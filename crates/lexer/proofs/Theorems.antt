@@ -9,22 +9,28 @@ use lib.Dec.{eqb}
 use lib.Ieee.{Float}
 use lib.ListN.{length, getD}
 use denote.Ref.{RefT, ptr, now}
-use Rattle.lexer.specs.Chars.{is, foreignByte, singleQuote, comma}
+use Rattle.lexer.specs.Chars.{is, foreignByte, carriageReturn, singleQuote, comma}
 use Rattle.lexer.specs.Cursor.{longest, startCursor, walk, part, moveTo, valid, Valid}
 use Rattle.lexer.specs.Float.{Limits, Scale, scale, over, under, floatValue}
 use Rattle.lexer.specs.Layout.{commentText}
+use Rattle.lexer.specs.Look.{peek, lookahead}
 use Rattle.lexer.specs.Nearest.{Nearest}
-use Rattle.lexer.specs.Quoted.{Quoted, decode}
+use Rattle.lexer.specs.Quoted.{escape, quotedItem, Quoted, decode}
 use Rattle.lexer.specs.Refusal.{numberOf, fault}
 use Rattle.lexer.specs.Text.{leaves, nextTokenText, seen, shown, counts, countedText, quotedText}
-use Rattle.lexer.specs.Token.{Text, decoded, lexeme, isComma, readLexeme, call, nextToken, nextNumberToken}
+use Rattle.lexer.specs.Token.{Text, decoded, lexeme, isComma, endToken, readLexeme, call, nextToken, nextNumberToken}
 use Rattle.lexer.specs.declared.refusal.Fault.{Fault}
 use Rattle.lexer.specs.declared.refusal.Refusal.{Refusal}
 use Rattle.lexer.specs.declared.refusal.Refusal.the-variants.{UnclosedComment, BadQuoted, ForeignByte}
+use Rattle.lexer.specs.declared.chars.Look.{Look}
+use Rattle.lexer.specs.declared.chars.Peek.{Peek}
 use Rattle.lexer.specs.declared.cursor.Cursor.{Cursor}
 use Rattle.lexer.specs.declared.cursor.Scan.{Scan}
 use Rattle.lexer.specs.declared.float.Floated.{Floated}
-use Rattle.lexer.specs.declared.kind.Kind.the-variants.{Name}
+use Rattle.lexer.specs.declared.kind.Kind.the-variants.{Name, End}
+use Rattle.lexer.specs.declared.kind.Plain.{Plain}
+use Rattle.lexer.specs.declared.kind.Value.the-variants.{Nothing}
+use Rattle.lexer.specs.declared.quoted.Item.{Item}
 use Rattle.lexer.specs.declared.text.Part.{Part}
 use Rattle.lexer.specs.declared.text.QuotedAnswer.{QuotedAnswer}
 use Rattle.lexer.specs.declared.text.TextAnswer.{TextAnswer}
@@ -37,7 +43,7 @@ use Rattle.lexer.proofs.Faults.{Placed, refusal-placed, placed-inside}
 use Rattle.lexer.proofs.FirstMark.{Clear, First, first-mark, mark-first, clear-end, clear-foreign}
 use Rattle.lexer.proofs.Promises.{LexemeEnds, lexeme-ends}
 use Rattle.lexer.proofs.Refusals.{all, numbers, number-once}
-use Rattle.lexer.proofs.Returns.{blanked, returns-read, returns-answered}
+use Rattle.lexer.proofs.Returns.{blanked, lexeme-alike, answer-alike, mark-before, raw-return, escaped-return, no-return}
 use Rattle.lexer.proofs.Specimens.{table, specimens}
 pub use Rattle.lexer.proofs.Spellings.{NameText, quoted, unquoted}
 use Rattle.lexer.proofs.Spellings.{name-text}
@@ -171,17 +177,33 @@ module _ (s : List ℕ) (o : ℕ) where
   pub comment-foreign : (i : ℕ) → o + 2 ≤ i → i < length s → Clear s (o + 2) i → is foreignByte (getD s i 0) ≡ true → commentText s o ≡ Scan.Refused (fault ForeignByte i)
   comment-foreign = clear-foreign s o
 
--- ---- 02, request 1: a carriage return is read as a blank is, except that in a quoted item it is refusal 4
+-- ---- 02, request 1: "byte 13 becomes layout"
 
--- by the token call or, where `field`, by the number call
+-- read by the token call or, where `field`, by the number call: a carriage return is as a blank, but in a quoted item it is refusal 4
 module _ (field : Bool) (s : List ℕ) where
-  -- what is read is read the same with a blank for each carriage return: the token, where it ends, and the bytes that a quoted one stands for
-  pub return-reads : (from : ℕ) (t : Token) (e : ℕ) (x : Text) → readLexeme field s from ≡ lexeme t e x → readLexeme field (blanked s) from ≡ lexeme t e x
-  return-reads = returns-read s field
+  -- with a blank for each carriage return the answer is the same, token, value, span, line and column or refusal, unless it is refusal 4
+  pub returns-are-blanks : (c : Cursor) → (call field (blanked s) c ≡ call field s c) ⊎ ((o : ℕ) × (call field s c ≡ Answer.Refused (fault BadQuoted o) c))
+  returns-are-blanks = answer-alike s field
 
-  -- so the answer is the same, the new cursor or the refusal, unless it is refusal 4
-  pub return-answers : (c : Cursor) → (call field (blanked s) c ≡ call field s c) ⊎ ((o : ℕ) × (call field s c ≡ Answer.Refused (fault BadQuoted o) c))
-  return-answers = returns-answered s field
+  -- and a token that was read is read there, with the same text
+  pub returns-read : (from : ℕ) (t : Token) (e : ℕ) (x : Text) → readLexeme field s from ≡ lexeme t e x → readLexeme field (blanked s) from ≡ lexeme t e x
+  returns-read = lexeme-alike s field
+
+module _ (s : List ℕ) (at : ℕ) where
+  -- "a dot before it is an end mark that leaves it unread": the dot at `at`
+  pub return-left : peek s (at + 1) ≡ Peek.Byte carriageReturn → endToken s at ≡ Plain.Whole End Nothing (at + 1)
+  return-left = mark-before s at
+
+  -- "inside a quoted item it gets 4, and after a backslash it is no line continuation"
+  pub return-in-quoted : (q token : ℕ) → lookahead s at ≡ Look.Byte carriageReturn → quotedItem q token s at ≡ Item.Refused (fault BadQuoted token)
+  return-in-quoted q token e = raw-return s at token e q
+
+  pub return-continues-nothing : (token : ℕ) → lookahead s at ≡ Look.Byte carriageReturn → escape token s at ≡ Item.Refused (fault BadQuoted token)
+  return-continues-nothing = escaped-return s at
+
+  -- "5 is no longer given for 13"
+  pub return-not-5 : (c : Cursor) → Placed s c (fault ForeignByte at) → getD s at 0 ≡ carriageReturn → ⊥
+  return-not-5 c = no-return s at (getD s at 0)
 
 -- ---- 01: "the value is the one double nearest to m times ten to the e, ties to even"
 
