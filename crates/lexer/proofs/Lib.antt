@@ -2,6 +2,7 @@ pub mod Bases
 pub mod Calls
 pub mod Commas
 pub mod Cursors
+pub mod EachToken
 pub mod Faults
 pub mod FirstMark
 pub mod Items

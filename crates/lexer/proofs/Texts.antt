@@ -1,22 +1,16 @@
 -- What the text call knows of a token that was read. Assumes nothing.
 use mathlib.Core.Path.{_≡_, refl, sym, _∙_, ap}
-use mathlib.Core.Bool.{Bool, true, false, cond}
+use mathlib.Core.Bool.{Bool, false}
 use mathlib.Core.List.{List}
 use Prim.Native.Nat.{ℕ, _+_, _<_}
 use native.Mathlib.Omega.{arith}
-use borrow.Author.Tests.{eqb-true}
-use lib.Dec.{eqb, ltb}
 use lib.ListN.{length, getD}
-use Rattle.lexer.specs.Chars.{is, quoteChar, singleQuote, doubleQuote}
+use Rattle.lexer.specs.Chars.{singleQuote, doubleQuote}
 use Rattle.lexer.specs.Cursor.{startCursor, moveTo}
-use Rattle.lexer.specs.Layout.{layoutEnd}
-use Rattle.lexer.specs.Look.{lookahead}
 use Rattle.lexer.specs.Quoted.{Quoted, decode}
 use Rattle.lexer.specs.Text.{Reads}
-use Rattle.lexer.specs.Token.{plain, Text, source, decoded, none, Lexeme, lexeme, refused, token, textOf, plainLexeme, quotedTo, quotedLexeme, lexemeTo, afterLayout, readLexeme, kept, spelledTo, found}
-use Rattle.lexer.specs.declared.chars.Look.{Look}
+use Rattle.lexer.specs.Token.{plain, Text, source, decoded, none, Lexeme, lexeme, refused, token, textOf, plainLexeme, readLexeme, kept, spelledTo, found}
 use Rattle.lexer.specs.declared.cursor.Cursor.{Cursor}
-use Rattle.lexer.specs.declared.cursor.Scan.{Scan}
 use Rattle.lexer.specs.declared.kind.Kind.{Kind}
 use Rattle.lexer.specs.declared.kind.Kind.the-variants.{Name, Variable, String, Number, Open, OpenCT, Close, OpenList, CloseList, OpenCurly, CloseCurly, HeadTailSeparator, DoubleBar, Comma, End}
 use Rattle.lexer.specs.declared.kind.Plain.{Plain}
@@ -25,7 +19,7 @@ use Rattle.lexer.specs.declared.token.Token.{Token}
 use Rattle.lexer.specs.declared.token.Spelling.{Spelling}
 use Rattle.lexer.specs.declared.token.Found.{Found}
 use Rattle.lexer.proofs.Cursors.{move-offset}
-use Rattle.lexer.proofs.Looks.{Seen, look-byte}
+use Rattle.lexer.proofs.EachToken.{Quotes, read-each}
 use Rattle.lexer.proofs.Promises.{lexeme-ends}
 
 -- ---- a token whose text is decoded begins with the quote by which it is decoded
@@ -42,10 +36,6 @@ Decodes s (lexeme t e none) = Unit {0}
 Decodes s (refused w) = Unit {0}
 
 module _ (s : List ℕ) where
-  choice : (b : Bool) (l r : Lexeme) → (b ≡ true → Decodes s l) → (b ≡ false → Decodes s r) → Decodes s (cond b l r)
-  choice true l r p q = p refl
-  choice false l r p q = q refl
-
   -- a token that is not quoted has its own text or none
   kind-decodes : (k : Kind) (t : Token) (e : ℕ) → Decodes s (lexeme t e (textOf k))
   kind-decodes Name t e = tt
@@ -64,40 +54,19 @@ module _ (s : List ℕ) where
   kind-decodes Comma t e = tt
   kind-decodes End t e = tt
 
-  module _ (at : ℕ) where
-    plain-decodes : (p : Plain) → Decodes s (plainLexeme at p)
-    unfolding plainLexeme
-    plain-decodes (Whole k v e) = kind-decodes k (token k v at) e
-    plain-decodes (Refused w) = tt
+  plain-decodes : (at : ℕ) (p : Plain) → Decodes s (plainLexeme at p)
+  unfolding plainLexeme
+  plain-decodes at (Whole k v e) = kind-decodes k (token k v at) e
+  plain-decodes at (Refused w) = tt
 
-    -- a quote, and what follows it
-    module _ (x : ℕ) (l : Seen s at x) where
-      to-decodes : (k : Kind) (q : ℕ) → x ≡ q → (d : Quoted) → decode q at s (at + 1) ≡ d → Decodes s (quotedTo k at d)
-      unfolding quotedTo
-      to-decodes k q h (Quoted.whole bs e) f = record { inside = l .inside; reads = cc (l .it) }
-      to-decodes k q h (Quoted.refused w) f = tt
-
-      quoted-decodes : (field : Bool) → Decodes s (quotedLexeme field s at x)
-      unfolding quotedLexeme
-      quoted-decodes field =
-          choice (eqb x singleQuote) _ _ (λ t. to-decodes Name singleQuote (eqb-true x singleQuote t) (decode singleQuote at s (at + 1)) refl)
-          (λ _. choice field _ _ (λ _. tt)
-          (λ _. choice (eqb x doubleQuote) _ _ (λ t. to-decodes String doubleQuote (eqb-true x doubleQuote t) (decode doubleQuote at s (at + 1)) refl)
-          (λ _. tt)))
-
-    at-decodes : (field layout : Bool) (r : Look) → lookahead s at ≡ r → Decodes s (lexemeTo field s at layout r)
-    unfolding lexemeTo
-    at-decodes field layout (Look.Refused w) f = tt
-    at-decodes field layout (Look.Byte x) f =
-        choice (is quoteChar x) _ _ (λ _. quoted-decodes x (look-byte s at x f) field) (λ _. plain-decodes (plain field s at layout x))
-
-  after-decodes : (field : Bool) (from : ℕ) (r : Scan) → Decodes s (afterLayout field s from r)
-  unfolding afterLayout
-  after-decodes field from (Scan.Refused w) = tt
-  after-decodes field from (Scan.Stop at) = at-decodes at field (ltb from at) (lookahead s at) refl
+  -- a quote, and what follows it
+  quote-decodes : (k : Kind) (q : ℕ) → Quotes s (Decodes s) k q
+  quote-decodes k q at l bs e f = record { inside = l .inside; reads = rw (l .it) f }
 
   pub decoded-at : (field : Bool) (from : ℕ) (t : Token) (e : ℕ) (bs : List ℕ) → readLexeme field s from ≡ lexeme t e (decoded bs) → QuotedAt s (t .start) e bs
-  decoded-at field from t e bs f = rw f at (after-decodes field from (layoutEnd s from))
+  decoded-at field from t e bs f =
+      rw f at (read-each field s (Decodes s) (λ w. tt) (quote-decodes Name singleQuote) (quote-decodes String doubleQuote)
+      (λ at x l n layout. plain-decodes at (plain field s at layout x)) from)
 
 -- ---- what is kept of a token that was read
 

@@ -1,0 +1,147 @@
+-- What holds by each rule that reads a token holds of every token that is read. Assumes nothing.
+use Prim.Native.Nat.{ℕ, _+_}
+use mathlib.Core.Path.{_≡_, refl, subst}
+use mathlib.Core.Bool.{Bool, true, false}
+use mathlib.Core.List.{List}
+use borrow.Author.Tests.{eqb-true}
+use lib.Dec.{eqb, ltb}
+use Rattle.lexer.specs.Chars.{is, smallLetter, capitalLetter, underscoreChar, decimalDigit, graphicTokenChar, layoutChar, soloChar, quoteChar, newline, singleQuote, doubleQuote, percent, point, bar, cut, semicolon}
+use Rattle.lexer.specs.Digits.{beyond}
+use Rattle.lexer.specs.Float.{floatValue}
+use Rattle.lexer.specs.Layout.{layoutEnd}
+use Rattle.lexer.specs.Look.{peek, lookahead}
+use Rattle.lexer.specs.Name.{alphanumerics, graphics, runToken, nameToken}
+use Rattle.lexer.specs.Number.{numberToken}
+use Rattle.lexer.specs.Quoted.{Quoted, decode}
+use Rattle.lexer.specs.Token.{mark, barTo, pointTo, soloTo, floated, valued, numbered, plainToken, plainNumber, plain, decoded, Lexeme, lexeme, refused, token, plainLexeme, quotedTo, quotedLexeme, lexemeTo, afterLayout, readLexeme}
+use Rattle.lexer.specs.declared.refusal.Fault.{Fault}
+use Rattle.lexer.specs.declared.chars.Look.{Look}
+use Rattle.lexer.specs.declared.chars.Peek.{Peek}
+use Rattle.lexer.specs.declared.cursor.Scan.{Scan}
+use Rattle.lexer.specs.declared.float.Floated.{Floated}
+use Rattle.lexer.specs.declared.kind.Kind.{Kind}
+use Rattle.lexer.specs.declared.kind.Kind.the-variants.{Name, Variable, String, Number, HeadTailSeparator, DoubleBar, End}
+use Rattle.lexer.specs.declared.kind.Plain.{Plain}
+use Rattle.lexer.specs.declared.kind.Value.the-variants.{Nothing}
+use Rattle.lexer.specs.declared.number.Numeral.{Numeral}
+use Rattle.lexer.specs.declared.number.NumberToken.{NumberToken}
+use Rattle.lexer.specs.declared.token.Mark.{Mark}
+use Rattle.lexer.proofs.Looks.{Seen, look-byte}
+use Rattle.lexer.proofs.Spans.{by-test}
+
+-- ---- a token that is not quoted
+
+module _ (P : Kind → ℕ → Type 0) where
+  -- P holds of it, if it is one, by its kind and its end
+  abbrev pub Each : Plain → Type 0
+  Each (Plain.Whole k v e) = P k e
+  Each (Plain.Refused w) = Unit {0}
+
+  -- P holds by each rule that may read it at `at`, where x stands
+  pub record Rules (s : List ℕ) (at x : ℕ) : Type 0 where
+    pub word : (e : ℕ) → alphanumerics s (at + 1) ≡ Scan.Stop e → P Name e × P Variable e
+    pub symbol : (e : ℕ) → graphics s (at + 1) ≡ Scan.Stop e → P Name e
+    pub solo : P Name (at + 1)
+    pub marked : (layout : Bool) (k : Kind) → mark layout x ≡ Mark.Is k → P k (at + 1)
+    pub separator : P HeadTailSeparator (at + 1)
+    pub bars : P DoubleBar (at + 2)
+    pub end : (e : ℕ) → P End e
+    pub number : (e : ℕ) → P Number e
+
+  module _ (s : List ℕ) (at x : ℕ) (r : Rules s at x) where
+    -- names and variables
+    run-each : (k : Kind) (q : Scan) → ((e : ℕ) → q ≡ Scan.Stop e → P k e) → Each (runToken k q)
+    unfolding runToken
+    run-each k (Scan.Stop e) h = h e refl
+    run-each k (Scan.Refused w) h = tt
+
+    variable-each : Each (runToken Variable (alphanumerics s (at + 1)))
+    variable-each = run-each Variable (alphanumerics s (at + 1)) (λ e f. r .word e f .1)
+
+    name-each : Each (nameToken s at x)
+    unfolding nameToken
+    name-each =
+        by-test Each (is smallLetter x) _ _ (λ _. run-each Name (alphanumerics s (at + 1)) (λ e f. r .word e f .0))
+        (λ _. by-test Each (is graphicTokenChar x) _ _ (λ _. run-each Name (graphics s (at + 1)) (r .symbol))
+        (λ _. by-test Each (eqb x cut) _ _ (λ _. r .solo) (λ _. by-test Each (eqb x semicolon) _ _ (λ _. r .solo) (λ _. tt))))
+
+    -- marks
+    bar-each : (l : Look) → Each (barTo at l)
+    unfolding barTo
+    bar-each (Look.Refused w) = tt
+    bar-each (Look.Byte y) = by-test Each (eqb y bar) _ _ (λ _. r .bars) (λ _. r .separator)
+
+    solo-each : (layout : Bool) (m : Mark) → mark layout x ≡ m → Each (soloTo s at x m)
+    unfolding soloTo
+    solo-each layout (Mark.Is k) f = r .marked layout k f
+    solo-each layout Mark.Other f = by-test Each (eqb x bar) _ _ (λ _. bar-each (lookahead s (at + 1))) (λ _. name-each)
+
+    end-each : x ≡ point → (p : Peek) → Each (pointTo s at p)
+    unfolding pointTo
+    end-each f Peek.End = r .end (at + 1)
+    end-each f Peek.Foreign = tt
+    end-each f (Peek.Byte y) =
+        by-test Each (eqb y newline) _ _ (λ _. r .end (at + 2))
+        (λ _. by-test Each (is layoutChar y) _ _ (λ _. r .end (at + 1))
+        (λ _. by-test Each (eqb y percent) _ _ (λ _. r .end (at + 1)) (λ _. subst (λ (z : ℕ). Each (nameToken s at z)) f name-each)))
+
+    -- numbers
+    float-each : (e : ℕ) (d : Floated) → Each (floated at e d)
+    unfolding floated
+    float-each e (Floated.Value d) = r .number e
+    float-each e Floated.Beyond = tt
+
+    value-each : (e : ℕ) (n : Numeral) → Each (valued at e n)
+    unfolding valued
+    value-each e (Numeral.Integer n) = by-test Each (ltb n beyond) _ _ (λ _. r .number e) (λ _. tt)
+    value-each e (Numeral.Float m sign y d) = float-each e (floatValue m sign y d)
+
+    number-each : (field : Bool) (n : NumberToken) → Each (numbered field at n)
+    unfolding numbered
+    number-each field (NumberToken.Whole n e) = value-each e n
+    number-each field (NumberToken.Partial n e) = by-test Each field _ _ (λ _. value-each e n) (λ _. tt)
+    number-each field (NumberToken.Refused w) = tt
+
+    -- each of them
+    pub plain-each : (field layout : Bool) → Each (plain field s at layout x)
+    unfolding plainToken plainNumber
+    plain-each field layout =
+        by-test Each field _ _ (λ _. by-test Each (is decimalDigit x) _ _ (λ _. number-each true (numberToken s at)) (λ _. name-each))
+        (λ _. by-test Each (is decimalDigit x) _ _ (λ _. number-each false (numberToken s at))
+        (λ _. by-test Each (is soloChar x) _ _ (λ _. solo-each layout (mark layout x) refl)
+        (λ _. by-test Each (is capitalLetter x) _ _ (λ _. variable-each)
+        (λ _. by-test Each (is underscoreChar x) _ _ (λ _. variable-each)
+        (λ _. by-test Each (eqb x point) _ _ (λ t. end-each (eqb-true x point t) (peek s (at + 1))) (λ _. name-each))))))
+
+-- ---- any token: Q holds of what is read
+
+-- of a quoted token of the kind k, at a quote q, by what is decoded
+abbrev pub Quotes : List ℕ → (Lexeme → Type 0) → Kind → ℕ → Type 0
+Quotes s Q k q = (at : ℕ) → Seen s at q → (bs : List ℕ) (e : ℕ) → decode q at s (at + 1) ≡ Quoted.whole bs e → Q (lexeme (token k Nothing at) e (decoded bs))
+
+-- of a refusal, a quoted token, another token: so of any
+module _ (field : Bool) (s : List ℕ) (Q : Lexeme → Type 0) (not-read : (w : Fault) → Q (refused w)) (names : Quotes s Q Name singleQuote) (strings : Quotes s Q String doubleQuote)
+    (others : (at x : ℕ) → Seen s at x → is quoteChar x ≡ false → (layout : Bool) → Q (plainLexeme at (plain field s at layout x))) where
+  quoted-each : (k : Kind) (q : ℕ) → Quotes s Q k q → (at x : ℕ) → Seen s at x → eqb x q ≡ true → (d : Quoted) → decode q at s (at + 1) ≡ d → Q (quotedTo k at d)
+  unfolding quotedTo
+  quoted-each k q h at x l t (Quoted.whole bs e) f = h at (rw (eqb-true x q t) at l) bs e f
+  quoted-each k q h at x l t (Quoted.refused w) f = not-read w
+
+  look-each : (at : ℕ) (layout : Bool) (r : Look) → lookahead s at ≡ r → Q (lexemeTo field s at layout r)
+  unfolding lexemeTo quotedLexeme
+  look-each at layout (Look.Refused w) f = not-read w
+  look-each at layout (Look.Byte x) f =
+      let l = look-byte s at x f in
+      by-test Q (is quoteChar x) _ _
+      (λ _. by-test Q (eqb x singleQuote) _ _ (λ t. quoted-each Name singleQuote names at x l t (decode singleQuote at s (at + 1)) refl)
+      (λ _. by-test Q field _ _ (λ _. not-read _)
+      (λ _. by-test Q (eqb x doubleQuote) _ _ (λ t. quoted-each String doubleQuote strings at x l t (decode doubleQuote at s (at + 1)) refl) (λ _. not-read _))))
+      (λ n. others at x l n layout)
+
+  after-each : (from : ℕ) (r : Scan) → Q (afterLayout field s from r)
+  unfolding afterLayout
+  after-each from (Scan.Refused w) = not-read w
+  after-each from (Scan.Stop at) = look-each at (ltb from at) (lookahead s at) refl
+
+  pub read-each : (from : ℕ) → Q (readLexeme field s from)
+  read-each from = after-each from (layoutEnd s from)
