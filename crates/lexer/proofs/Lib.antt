@@ -9,6 +9,7 @@ pub mod Items
 pub mod Layouts
 pub mod Looks
 pub mod Numbers
+pub mod OwnBytes
 pub mod Promises
 pub mod QuotedItems
 pub mod Refusals

@@ -1,7 +1,7 @@
 -- What a carriage return is: it is read as a blank is, except that in a quoted item it is refusal 4. Assumes nothing.
 use Prim.Native.Nat.{ℕ, zero, suc, _+_, _-_, _*_}
-use mathlib.Core.Path.{_≡_, refl, _∙_, ap}
-use mathlib.Core.Logic.{_⊎_, inl, inr, ⊎-elim}
+use mathlib.Core.Path.{_≡_, refl, ap}
+use mathlib.Core.Logic.{_⊎_, inl, inr}
 use mathlib.Core.Bool.{Bool, true, false, cond, _&&_}
 use mathlib.Core.List.{List, [], _∷_, map}
 use native.Mathlib.Omega.{arith}
@@ -19,7 +19,7 @@ use Rattle.lexer.specs.Number.{radixClosed, radixTo, radixConstant, char
 use Rattle.lexer.specs.Number as Number
 use Rattle.lexer.specs.Quoted.{escapeOf, closed, numericEscape, escapeTo, escape, quoteTo, itemTo, quotedItem, Quoted, withChar, outOfLimit, itemTurn, quotedTurn, unended, decode}
 use Rattle.lexer.specs.Refusal.{fault}
-use Rattle.lexer.specs.Token.{mark, barTo, pointTo, endToken, soloTo, numbered, plainToken, plainNumber, plain, Text, Lexeme, lexeme, refused, plainLexeme, quotedTo, quotedLexeme, lexemeTo, afterLayout, readLexeme, answered, call}
+use Rattle.lexer.specs.Token.{mark, barTo, pointTo, endToken, soloTo, numbered, plainToken, plainNumber, plain, Lexeme, lexeme, refused, plainLexeme, quotedTo, quotedLexeme, lexemeTo, afterLayout, readLexeme, answered, call}
 use Rattle.lexer.specs.declared.refusal.Fault.{Fault}
 use Rattle.lexer.specs.declared.refusal.Refusal.the-variants.{BadQuoted}
 use Rattle.lexer.specs.declared.chars.Peek.{Peek}
@@ -35,7 +35,6 @@ use Rattle.lexer.specs.declared.number.NumberToken.{NumberToken}
 use Rattle.lexer.specs.declared.quoted.Item.{Item}
 use Rattle.lexer.specs.declared.token.Answer.{Answer}
 use Rattle.lexer.specs.declared.token.Mark.{Mark}
-use Rattle.lexer.specs.declared.token.Token.{Token}
 use Rattle.lexer.proofs.Looks.{Strange}
 use Rattle.lexer.proofs.Spans.{by-test}
 
@@ -89,7 +88,7 @@ module _ {A B : Type 0} (f : A → B) {b r : A} where
   alike h swapped = h
 
 -- the same, or the second is refusal 4
-data Unless {A : Type 0} (refuse : Fault → A) : A → A → Type 0 where
+pub data Unless {A : Type 0} (refuse : Fault → A) : A → A → Type 0 where
   same : {a : A} → Unless refuse a a
   four : {a : A} (o : ℕ) → Unless refuse a (refuse (fault BadQuoted o))
 
@@ -107,7 +106,7 @@ module _ {A : Type 0} {refuse : Fault → A} where
   through f same = same
   through f (four o) = four o
 
-  or-four : {a b : A} → Unless refuse a b → (a ≡ b) ⊎ ((o : ℕ) × (b ≡ refuse (fault BadQuoted o)))
+  pub or-four : {a b : A} → Unless refuse a b → (a ≡ b) ⊎ ((o : ℕ) × (b ≡ refuse (fault BadQuoted o)))
   or-four same = inl refl
   or-four (four o) = inr (o, refl)
 
@@ -126,7 +125,7 @@ unfolding digitOf
 digit-same x = alike digitOf refl (byte-stays x)
 
 -- ---- what is left of a text
-drop-same : (at : ℕ) (s : List ℕ) → drop at (blanked s) ≡ blanked (drop at s)
+pub drop-same : (at : ℕ) (s : List ℕ) → drop at (blanked s) ≡ blanked (drop at s)
 drop-same zero s = refl
 drop-same (suc n) [] = refl
 drop-same (suc n) (x ∷ xs) = drop-same n xs
@@ -350,6 +349,11 @@ module _ (s : List ℕ) where
         (either field same (either (eqb x doubleQuote) (through (quotedTo String at) (decode-same doubleQuote at refl (at + 1))) same)))
         (through (plainLexeme at) (plain-same field layout x))) same at
 
+  -- ---- a cursor that is moved on
+  pub move-same : (c : Cursor) (e : ℕ) → moveTo (blanked s) c e ≡ moveTo s c e
+  unfolding moveTo
+  move-same c e = rw (drop-same (c .offset) s) (walk-same (e - c .offset) (drop (c .offset) s) c)
+
   -- ---- what is read from an offset on, and what the calls answer
   module _ (field : Bool) where
     after-layout : (from : ℕ) (r : Scan) → Unless refused (afterLayout field s′ from r) (afterLayout field s from r)
@@ -357,19 +361,16 @@ module _ (s : List ℕ) where
     after-layout from (Scan.Refused w) = same
     after-layout from (Scan.Stop at) = token-same at field (ltb from at)
 
-    lexeme-same : (from : ℕ) → Unless refused (readLexeme field s′ from) (readLexeme field s from)
-    lexeme-same from = rw (layout-same from) (after-layout from (layoutEnd s from))
-
     -- what is read
-    pub lexeme-alike : (from : ℕ) (t : Token) (e : ℕ) (x : Text) → readLexeme field s from ≡ lexeme t e x → readLexeme field (blanked s) from ≡ lexeme t e x
-    lexeme-alike from t e x f = ⊎-elim (λ g. g ∙ f) (λ g. let h = g .1 in cc) (or-four (lexeme-same from))
+    pub lexeme-same : (from : ℕ) → Unless refused (readLexeme field s′ from) (readLexeme field s from)
+    lexeme-same from = rw (layout-same from) (after-layout from (layoutEnd s from))
 
     module _ (c : Cursor) where
       answer-same : {a b : Lexeme} → Unless refused a b → Unless (λ w. Answer.Refused w c) (answered s′ c a) (answered s c b)
-      unfolding answered moveTo
+      unfolding answered
       answer-same (four o) = four o
       answer-same (same {a = refused w}) = same
-      answer-same (same {a = lexeme t e x}) = since (rw (drop-same (c .offset) s, walk-same (e - c .offset) (drop (c .offset) s) c))
+      answer-same (same {a = lexeme t e x}) = since (rw (move-same c e))
 
       -- what is answered
       pub answer-alike : (call field (blanked s) c ≡ call field s c) ⊎ ((o : ℕ) × (call field s c ≡ Answer.Refused (fault BadQuoted o) c))

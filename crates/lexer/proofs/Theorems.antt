@@ -18,7 +18,7 @@ use Rattle.lexer.specs.Nearest.{Nearest}
 use Rattle.lexer.specs.Quoted.{escape, quotedItem, Quoted, decode}
 use Rattle.lexer.specs.Refusal.{numberOf, fault}
 use Rattle.lexer.specs.Text.{leaves, nextTokenText, seen, shown, counts, countedText, quotedText}
-use Rattle.lexer.specs.Token.{Text, decoded, lexeme, isComma, endToken, readLexeme, call, nextToken, nextNumberToken}
+use Rattle.lexer.specs.Token.{Text, source, decoded, lexeme, refused, isComma, endToken, readLexeme, call, nextToken, nextNumberToken}
 use Rattle.lexer.specs.declared.refusal.Fault.{Fault}
 use Rattle.lexer.specs.declared.refusal.Refusal.{Refusal}
 use Rattle.lexer.specs.declared.refusal.Refusal.the-variants.{UnclosedComment, BadQuoted, ForeignByte}
@@ -43,7 +43,9 @@ use Rattle.lexer.proofs.Faults.{Placed, refusal-placed, placed-inside}
 use Rattle.lexer.proofs.FirstMark.{Clear, First, first-mark, mark-first, clear-end, clear-foreign}
 use Rattle.lexer.proofs.Promises.{LexemeEnds, lexeme-ends}
 use Rattle.lexer.proofs.Refusals.{all, numbers, number-once}
-use Rattle.lexer.proofs.Returns.{blanked, lexeme-alike, answer-alike, mark-before, raw-return, escaped-return, no-return}
+use Rattle.lexer.proofs.OwnBytes.{own-bytes}
+pub use Rattle.lexer.proofs.Returns.{blank, blanked}
+use Rattle.lexer.proofs.Returns.{or-four, lexeme-same, answer-alike, move-same, mark-before, raw-return, escaped-return, no-return}
 use Rattle.lexer.proofs.Specimens.{table, specimens}
 pub use Rattle.lexer.proofs.Spellings.{NameText, quoted, unquoted}
 use Rattle.lexer.proofs.Spellings.{name-text}
@@ -185,9 +187,17 @@ module _ (field : Bool) (s : List ℕ) where
   pub returns-are-blanks : (c : Cursor) → (call field (blanked s) c ≡ call field s c) ⊎ ((o : ℕ) × (call field s c ≡ Answer.Refused (fault BadQuoted o) c))
   returns-are-blanks = answer-alike s field
 
-  -- and a token that was read is read there, with the same text
-  pub returns-read : (from : ℕ) (t : Token) (e : ℕ) (x : Text) → readLexeme field s from ≡ lexeme t e x → readLexeme field (blanked s) from ≡ lexeme t e x
-  returns-read = lexeme-alike s field
+  -- and so is what is read from an offset on, with its text
+  pub returns-read-alike : (from : ℕ) → (readLexeme field (blanked s) from ≡ readLexeme field s from) ⊎ ((o : ℕ) × (readLexeme field s from ≡ refused (fault BadQuoted o)))
+  returns-read-alike from = or-four (lexeme-same s field from)
+
+  -- a text that is the token's own bytes has no carriage return among them
+  pub return-in-no-name : (from : ℕ) (t : Token) (e : ℕ) → readLexeme field s from ≡ lexeme t e source → part (t .start) e (blanked s) ≡ part (t .start) e s
+  return-in-no-name = own-bytes s field
+
+-- a cursor moves over a carriage return as over a blank
+pub returns-move-alike : (s : List ℕ) (c : Cursor) (e : ℕ) → moveTo (blanked s) c e ≡ moveTo s c e
+returns-move-alike = move-same
 
 module _ (s : List ℕ) (at : ℕ) where
   -- "a dot before it is an end mark that leaves it unread": the dot at `at`

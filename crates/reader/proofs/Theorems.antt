@@ -9,16 +9,18 @@ use mathlib.Core.List.{List}
 use lib.ListN.{length}
 use lib.Seq.{sets}
 use Rattle.lexer.specs.Cursor.{valid}
+use Rattle.lexer.specs.Refusal.{fault}
 use Rattle.lexer.specs.declared.cursor.Cursor.{Cursor}
 use Rattle.lexer.specs.declared.refusal.Fault.{Fault}
-use Rattle.lexer.specs.declared.refusal.Refusal.the-variants.{NoReading}
+use Rattle.lexer.specs.declared.refusal.Refusal.the-variants.{BadQuoted, NoReading}
+use Rattle.lexer.proofs.Theorems.{blanked}
 use Rattle.reader.specs.Token.{Token, Tok, sameText}
 use Rattle.reader.specs.Ops.{Table, operators}
 use Rattle.reader.specs.Admitted.{admits}
 use Rattle.reader.specs.Tree.{NodeKind, Tree, packed, numbers}
 use Rattle.reader.specs.Grammar.{Clause, Reads}
 use Rattle.reader.specs.Machine.{Out, done, run, start, answer, Numbered}
-use Rattle.reader.specs.Clause.{mostTokens, whole, clauseTokens, Outcome}
+use Rattle.reader.specs.Clause.{mostTokens, whole, stopped, clauseTokens, Outcome}
 use Rattle.reader.specs.Listing.{Within, kindOf, line}
 use Rattle.reader.specs.LineCall.{longestLine, LineOutcome}
 use Rattle.reader.specs.declared.clause.ClauseAnswer.{ClauseAnswer}
@@ -28,6 +30,7 @@ use Rattle.reader.proofs.LineFits.{line-short, read-whole, refused-anyw
 use Rattle.reader.proofs.LineOutcomes.{some-line, one-line}
 use Rattle.reader.proofs.Outcomes.{some-outcome, one-outcome}
 use Rattle.reader.proofs.Permits.{never-no-reading, read-tree, room-reads, behind-clause, behind-line, fits-line}
+use Rattle.reader.proofs.Returns.{tokens-alike, outcome-alike}
 use Rattle.reader.proofs.Indexes.{reads-within}
 use Rattle.reader.proofs.Terms.{packed-both}
 use Rattle.reader.proofs.Table.{same-exactly, fair, operators-admitted}
@@ -115,6 +118,16 @@ module _ (s : List ℕ) (c : Cursor) (v : valid (length s) c ≡ true) (ts : Lis
 pub line-refused : (s : List ℕ) (c : Cursor) (d : List ℕ) → longestLine ≤ length d → (w : Fault) (k : Cursor) (d′ : List ℕ) (r : LineAnswer) (x : List ℕ) → LineOutcome s c d r x
     → r ≡ Refused w k → LineOutcome s c d′ (Refused w c) d′
 line-refused = refused-anyway
+
+-- ---- 02, request 1: "byte 13 becomes layout"
+
+-- The tokens of a clause are the same with a blank for each carriage return, unless one is refused by 4.
+pub returns-gathered : (s : List ℕ) (c : Cursor) → (clauseTokens (blanked s) c ≡ clauseTokens s c) ⊎ ((o : ℕ) × (clauseTokens s c ≡ stopped (fault BadQuoted o)))
+returns-gathered = tokens-alike
+
+-- So the clause call may answer for the one text what it may answer for the other, and leave the same in the tree slice.
+pub returns-clause : {s d x : List ℕ} {c : Cursor} {a : ClauseAnswer} → Outcome s c d a x → (Outcome (blanked s) c d a x) ⊎ ((o : ℕ) × (a ≡ ClauseAnswer.Refused (fault BadQuoted o) c))
+returns-clause {s} {c = c} = outcome-alike s c
 
 -- ---- names, the table, specimens
 
