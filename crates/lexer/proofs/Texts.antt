@@ -60,12 +60,12 @@ module _ (s : List ℕ) where
   plain-decodes at (Refused w) = tt
 
   -- a quote, and what follows it
-  quote-decodes : (k : Kind) (q : ℕ) → Quotes s (Decodes s) k q
-  quote-decodes k q at l bs e f = record { inside = l .inside; reads = rw (l .it) f }
+  decodes-quote : (k : Kind) (q : ℕ) → Quotes s (Decodes s) k q
+  decodes-quote k q at l bs e f = record { inside = l .inside; reads = rw (l .it) f }
 
   pub decoded-at : (field : Bool) (from : ℕ) (t : Token) (e : ℕ) (bs : List ℕ) → readLexeme field s from ≡ lexeme t e (decoded bs) → QuotedAt s (t .start) e bs
   decoded-at field from t e bs f =
-      rw f at (read-each field s (Decodes s) (λ w. tt) (quote-decodes Name singleQuote) (quote-decodes String doubleQuote)
+      rw f at (read-each field s (Decodes s) (λ w. tt) (decodes-quote Name singleQuote) (decodes-quote String doubleQuote)
       (λ at x l n layout. plain-decodes at (plain field s at layout x)) from)
 
 -- ---- what is kept of a token that was read
