@@ -233,8 +233,8 @@ module _ (m : ℕ) (minus : Bool) (x f : ℕ) where
   pub float-exact : Exact m x f minus e
   float-exact = scale-exact m x f minus
 
--- ---- 01's table of refusals: the numbers from 1 to 12, each once
-pub refusals-in-order : map numberOf all ≡ 1 ∷ 2 ∷ 3 ∷ 4 ∷ 5 ∷ 6 ∷ 7 ∷ 8 ∷ 9 ∷ 10 ∷ 11 ∷ 12 ∷ []
+-- ---- the table of refusals: the numbers from 1 to 14, each once
+pub refusals-in-order : map numberOf all ≡ 1 ∷ 2 ∷ 3 ∷ 4 ∷ 5 ∷ 6 ∷ 7 ∷ 8 ∷ 9 ∷ 10 ∷ 11 ∷ 12 ∷ 13 ∷ 14 ∷ []
 refusals-in-order = numbers
 
 pub refusals-apart : (r q : Refusal) → numberOf r ≡ numberOf q → r ≡ q

@@ -1,10 +1,10 @@
--- Refusals and their numbers: 01, "Refusal numbers". Definitions only.
+-- Refusals and their numbers: 01, "Refusal numbers", and what 02 adds. Definitions only.
 use Prim.Native.Nat.{ℕ}
 use Rattle.lexer.specs.declared.refusal.Refusal.{Refusal}
-use Rattle.lexer.specs.declared.refusal.Refusal.the-variants.{EndOfText, UnclosedComment, NoToken, BadQuoted, ForeignByte, SetAside, OutOfLimit, NotValid, NoRoom, TooManyTokens, NoReading, NoText}
+use Rattle.lexer.specs.declared.refusal.Refusal.the-variants.{EndOfText, UnclosedComment, NoToken, BadQuoted, ForeignByte, SetAside, OutOfLimit, NotValid, NoRoom, TooManyTokens, NoReading, NoText, TooLong, NoPack}
 use Rattle.lexer.specs.declared.refusal.Fault.{Fault}
 
--- 01's number of each refusal
+-- the number of each refusal
 abbrev pub numberOf : Refusal → ℕ
 numberOf EndOfText = 1
 numberOf UnclosedComment = 2
@@ -18,6 +18,9 @@ numberOf NoRoom = 9
 numberOf TooManyTokens = 10
 numberOf NoReading = 11
 numberOf NoText = 12
+-- 02, request 2
+numberOf TooLong = 13
+numberOf NoPack = 14
 
 -- a refusal and its offset
 abbrev pub fault : Refusal → ℕ → Fault

@@ -1,4 +1,4 @@
-// Why a call is refused: document 01's refusal numbers, by name.
+// Why a call is refused: the refusal numbers of documents 01 and 02, by name.
 ghost use mathlib.Core.Path.{_≡_};
 ghost use Rattle.lexer.specs.Refusal.{numberOf};
 
@@ -15,6 +15,8 @@ pub enum Refusal {
     TooManyTokens,
     NoReading,
     NoText,
+    TooLong,
+    NoPack,
 }
 
 // A refusal, and the offset that it points at.
@@ -23,7 +25,7 @@ pub struct Fault {
     pub offset: usize,
 }
 
-// Document 01's number of a refusal.
+// The number of a refusal.
 pub fn refusal_number(refusal: Refusal) -> u8
     ensures { λ r. ⌜ r ≡ numberOf refusal ⌝ }
 {
@@ -40,5 +42,7 @@ pub fn refusal_number(refusal: Refusal) -> u8
         Refusal::TooManyTokens => 10,
         Refusal::NoReading => 11,
         Refusal::NoText => 12,
+        Refusal::TooLong => 13,
+        Refusal::NoPack => 14,
     }
 }

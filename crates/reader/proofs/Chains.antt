@@ -42,6 +42,10 @@ module _ (n : ℕ) where
   inside (t ∷ ts) (more a b c) zero l = begins c
   inside (t ∷ ts) (more a b c) (suc j) l = inside ts c j (omega arith)
 
+-- numbers of the tokens that stand in front of a slice
+pub front-at : (f : Token → ℕ) (ts : List Token) (xs : List ℕ) → take (length ts) xs ≡ map f ts → (i : ℕ) → i < length ts → getD xs i 0 ≡ getD (map f ts) i 0
+front-at f ts xs a i h = sym (getD-take (length ts) xs i 0 h) ∙ ap (λ (l : List ℕ). getD l i 0) a
+
 -- the spans in front of the two slices are the tokens'
 pub source-of : (s starts ends : List ℕ) (ts : List Token) (from : ℕ) → length s ≤ longest → length ts ≤ length starts → length ts ≤ length ends
     → take (length ts) starts ≡ starts-of ts → take (length ts) ends ≡ ends-of ts → Chain (length s) from ts → Source s starts ends (length ts)
@@ -50,12 +54,9 @@ source-of s starts ends ts from short p q a b c =
       short = short;
       started = p;
       ended = q;
-      ordered = λ i j k l. let h : i < length ts = omega arith in rw (start-at i h, end-at j l) (ordered (length s) ts c i j k l);
-      inside = λ j l. rw (end-at j l) (inside (length s) ts c j l);
+      ordered =
+          λ i j k l.
+          let h : i < length ts = omega arith in
+          rw (front-at (λ (t : Token). t .start) ts starts a i h, front-at (λ (t : Token). t .end) ts ends b j l) (ordered (length s) ts c i j k l);
+      inside = λ j l. rw (front-at (λ (t : Token). t .end) ts ends b j l) (inside (length s) ts c j l);
     }
-  where
-    start-at : (i : ℕ) → i < length ts → getD starts i 0 ≡ getD (starts-of ts) i 0
-    start-at i h = sym (getD-take (length ts) starts i 0 h) ∙ ap (λ (l : List ℕ). getD l i 0) a
-
-    end-at : (i : ℕ) → i < length ts → getD ends i 0 ≡ getD (ends-of ts) i 0
-    end-at i h = sym (getD-take (length ts) ends i 0 h) ∙ ap (λ (l : List ℕ). getD l i 0) b

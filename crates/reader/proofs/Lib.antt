@@ -7,6 +7,7 @@ pub mod Size
 pub mod Answer
 pub mod Outcomes
 pub mod Permits
+pub mod TreeRoom
 pub mod Returns
 pub mod Theorems
 pub mod Needed

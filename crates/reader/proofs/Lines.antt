@@ -4,13 +4,13 @@ use mathlib.Core.Path.{_≡_, refl, sym, ap, _∙_}
 use mathlib.Core.List.{List, map}
 use native.Mathlib.Omega.{arith}
 use lib.ListN.{length, getD, take, List·getD-map}
-use lib.Seq.{getD-take}
 use Rattle.reader.specs.Token.{Token}
 use Rattle.reader.specs.Tree.{Tree, node, Forest, nil, _◂_}
 use Rattle.reader.specs.Listing.{shapeOf, lastSeparator, front, printed, joined, others, tokenAt, spelled, line, spelling, word, lastToken, Within, root, WithinAll, none, more, leaves, lineOutcome, Listable, SomeListable, Lists}
 use Rattle.reader.specs.declared.listing.Shape.{Shape}
 use Rattle.reader.specs.declared.listing.Shape.the-variants.{Word, Negative, Call, Square, Tail, Curly}
 use Rattle.reader.specs.declared.listing.Listed.{Listed}
+use Rattle.reader.proofs.Chains.{front-at}
 use Rattle.reader.proofs.Spans.{Told}
 
 -- two outcomes that the contract permits are one
@@ -46,10 +46,10 @@ module _ (tokens : ℕ) (w w′ : ℕ → ℕ → List ℕ) (f : (i j : ℕ) →
 -- the spans in front are the tokens' spans, and a comma stands where the Comma starts
 module _ (s starts ends : List ℕ) (ts : List Token) (a : take (length ts) starts ≡ map (λ (k : Token). k .start) ts) (b : take (length ts) ends ≡ map (λ (k : Token). k .end) ts) (h : Told s ts) where
   start-at : (i : ℕ) → i < length ts → getD starts i 0 ≡ tokenAt ts i .start
-  start-at i l = sym (getD-take (length ts) starts i 0 l) ∙ ap (λ (l : List ℕ). getD l i 0) a ∙ List·getD-map (λ (k : Token). k .start) ts i _
+  start-at i l = front-at (λ (k : Token). k .start) ts starts a i l ∙ List·getD-map (λ (k : Token). k .start) ts i _
 
   end-at : (i : ℕ) → i < length ts → getD ends i 0 ≡ tokenAt ts i .end
-  end-at i l = sym (getD-take (length ts) ends i 0 l) ∙ ap (λ (l : List ℕ). getD l i 0) b ∙ List·getD-map (λ (k : Token). k .end) ts i _
+  end-at i l = front-at (λ (k : Token). k .end) ts ends b i l ∙ List·getD-map (λ (k : Token). k .end) ts i _
 
   -- by the first byte and by the kind it is the same
   word-spelled : (i j : ℕ) → i ≤ j → j < length ts → word s starts ends i j ≡ spelled s ts i j

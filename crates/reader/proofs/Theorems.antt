@@ -6,9 +6,9 @@ use mathlib.Core.Bool.{true}
 use mathlib.Core.Logic.{_⊎_, _↔_}
 use mathlib.Core.Option.{some}
 use mathlib.Core.List.{List}
-use lib.ListN.{length}
+use lib.ListN.{length, getD}
 use lib.Seq.{sets}
-use Rattle.lexer.specs.Cursor.{valid}
+use Rattle.lexer.specs.Cursor.{part, valid}
 use Rattle.lexer.specs.Refusal.{fault}
 use Rattle.lexer.specs.declared.cursor.Cursor.{Cursor}
 use Rattle.lexer.specs.declared.refusal.Fault.{Fault}
@@ -17,12 +17,12 @@ use Rattle.lexer.proofs.Theorems.{blanked}
 use Rattle.reader.specs.Token.{Token, Tok, sameText}
 use Rattle.reader.specs.Ops.{Table, operators}
 use Rattle.reader.specs.Admitted.{admits}
-use Rattle.reader.specs.Tree.{NodeKind, Tree, packed, numbers}
+use Rattle.reader.specs.Tree.{NodeKind, kindNumber, Tree, packed, numbers}
 use Rattle.reader.specs.Grammar.{Clause, Reads}
 use Rattle.reader.specs.Machine.{Out, done, run, start, answer, Numbered}
 use Rattle.reader.specs.Clause.{mostTokens, whole, stopped, clauseTokens, Outcome}
-use Rattle.reader.specs.Listing.{Within, kindOf, line}
-use Rattle.reader.specs.LineCall.{longestLine, LineOutcome}
+use Rattle.reader.specs.Listing.{Within, kindOf, tokenAt, line, Source}
+use Rattle.reader.specs.LineCall.{longestLine, LineOutcome, ReadTree, Spans}
 use Rattle.reader.specs.declared.clause.ClauseAnswer.{ClauseAnswer}
 use Rattle.reader.specs.declared.line_call.LineAnswer.{LineAnswer}
 use Rattle.reader.specs.declared.line_call.LineAnswer.the-variants.{Read, Refused}
@@ -32,7 +32,8 @@ use Rattle.reader.proofs.Outcomes.{some-outcome, one-outcome}
 use Rattle.reader.proofs.Permits.{never-no-reading, read-tree, room-reads, behind-clause, behind-line, fits-line}
 use Rattle.reader.proofs.Returns.{tokens-alike, outcome-alike}
 use Rattle.reader.proofs.Indexes.{reads-within}
-use Rattle.reader.proofs.Terms.{packed-both}
+use Rattle.reader.proofs.Terms.{packed-both, packed-kind}
+use Rattle.reader.proofs.TreeRoom.{few-numbers, tree-within, spans-part, spans-source, read-front, refused-always, refused-back}
 use Rattle.reader.proofs.Table.{same-exactly, fair, operators-admitted}
 use Rattle.reader.proofs.Answer.{answer-complete, answer-sound, one-tree, reads?, tree-small}
 use Rattle.reader.proofs.Specimens.{Holds, All, table, specimens}
@@ -60,6 +61,9 @@ arity-tree = reads-within
 -- So a node's second number names its kind and its arity.
 pub kind-and-arity : (k : NodeKind) (a : ℕ) → a < 1024 → (kindOf (packed k a / 1024) ≡ k) × (packed k a % 1024 ≡ a)
 kind-and-arity = packed-both
+
+pub kind-number : (k : NodeKind) (a : ℕ) → a < 1024 → packed k a / 1024 ≡ kindNumber k
+kind-number = packed-kind
 
 -- ---- the clause call and its line: the text, the cursor, the slice that is written
 module _ (s : List ℕ) (c : Cursor) (d : List ℕ) where
@@ -118,6 +122,37 @@ module _ (s : List ℕ) (c : Cursor) (v : valid (length s) c ≡ true) (ts : Lis
 pub line-refused : (s : List ℕ) (c : Cursor) (d : List ℕ) → longestLine ≤ length d → (w : Fault) (k : Cursor) (d′ : List ℕ) (r : LineAnswer) (x : List ℕ) → LineOutcome s c d r x
     → r ≡ Refused w k → LineOutcome s c d′ (Refused w c) d′
 line-refused = refused-anyway
+
+-- ---- what calls above the clause call go by (the line, the pack)
+module _ (s : List ℕ) (c : Cursor) where
+  -- A tree slice of 2,046 numbers always serves: with it a refusal is not for room, and stands whatever the slice;
+  pub clause-refused : (d : List ℕ) → 2 * mostTokens ≤ length d + 2 → (w : Fault) (k : Cursor) (a : ClauseAnswer) (x : List ℕ) → Outcome s c d a x → a ≡ ClauseAnswer.Refused w k
+      → (y : List ℕ) → Outcome s c y (ClauseAnswer.Refused w c) y
+  clause-refused = refused-always s c
+
+  -- whatever the slice, a refusal gives the cursor back,
+  pub clause-back : (d : List ℕ) {w : Fault} {k : Cursor} {x : List ℕ} → Outcome s c d (ClauseAnswer.Refused w k) x → k ≡ c
+  clause-back = refused-back s c
+
+  -- and what was read stands in front.
+  pub clause-front : (d : List ℕ) (a : ClauseAnswer) (x : List ℕ) (nodes : ℕ) (e : Cursor) → Outcome s c d a x → a ≡ ClauseAnswer.Read nodes e → ReadTree s c x nodes e
+  clause-front = read-front s c
+
+  module _ (ts : List Token) (e : Cursor) (v : valid (length s) c ≡ true) (g : clauseTokens s c ≡ whole ts e) where
+    -- Every node of a clause's tree stands at one of its tokens, and there are fewer nodes than tokens may be.
+    pub clause-within : (t : Tree) → Reads operators ts t → Within (length ts) t
+    clause-within = tree-within s c ts e v g
+
+    pub clause-numbers : (t : Tree) → Reads operators ts t → length (numbers t) + 2 ≤ 2 * mostTokens
+    clause-numbers = few-numbers s c ts e v g
+
+    -- The spans that `span_tokens` leaves are the tokens', one behind the other and within the text.
+    module _ (starts ends : List ℕ) (spans : Spans s c starts ends) where
+      pub span-part : (i j : ℕ) → i ≤ j → j < length ts → part (getD starts i 0) (getD ends j 0) s ≡ part (tokenAt ts i .start) (tokenAt ts j .end) s
+      span-part = spans-part s c ts e v g starts ends spans
+
+      pub span-source : mostTokens ≤ length starts → mostTokens ≤ length ends → Source s starts ends (length ts)
+      span-source = spans-source s c ts e v g starts ends spans
 
 -- ---- 02, request 1: "byte 13 becomes layout"
 

@@ -12,3 +12,4 @@ pub use clause::ClauseAnswer;
 pub use clause::read_clause;
 pub use line_call::LineAnswer;
 pub use line_call::list_clause;
+pub use line_call::span_tokens;

@@ -31,8 +31,8 @@ fn narrow(offset: usize) -> u16
 // As many tokens as a clause may have.
 const MOST: usize = 1024;
 
-// The spans of the clause's tokens: where each starts, and where it ends.
-fn span_tokens(text: &[u8], cursor: Cursor, starts: &mut [u16], ends: &mut [u16])
+// The spans of the clause's tokens: where each starts, and where it ends. It is public for the crate `pack`, and is no interface: it asks for the room.
+pub fn span_tokens(text: &[u8], cursor: Cursor, starts: &mut [u16], ends: &mut [u16])
     requires { ⌜ Spanning (now text) cursor (now starts) (now ends) ⌝ }
     ensures { λ r. ⌜ Spans (now (text .entry)) cursor (now (starts .exit)) (now (ends .exit)) ⌝ }
 {

@@ -16,10 +16,7 @@ use Rattle.reader.specs.LineCall.{LineOutcome, ReadTree}
 use Rattle.reader.specs.declared.line_call.LineAnswer.{LineAnswer}
 use Rattle.reader.specs.declared.clause.ClauseAnswer.{ClauseAnswer}
 use Rattle.reader.specs.declared.clause.ClauseAnswer.the-variants.{Read, Refused}
-use Rattle.reader.proofs.Answer.{tree-small}
-use Rattle.reader.proofs.Puts.{sets-front}
-use Rattle.reader.proofs.Spans.{terminals-length, gathered-few}
-use Rattle.reader.proofs.Table.{fair, operators-admitted}
+use Rattle.reader.proofs.TreeRoom.{few-numbers, read-front}
 use Rattle.reader.proofs.line_call.list_clause.Statement.{statement}
 use Rattle.reader.proofs.line_call.list_clause.Tie as tie
 
@@ -42,28 +39,11 @@ module _ (s : List ℕ) (c : Cursor) (tree : List ℕ) (n : length tree ≡ 2048
     refused a x (noMark v g) h = carry a h (lined.noMark v g)
     refused a x (noReading v g q) h = carry a h (lined.noReading v g q)
     refused a x (noRoom {ts} {e} {t} v g q l) h =
-        absurd (omega (arith, tree-small operators (fair operators operators-admitted) q, terminals-length 0 ts, gathered-few mostTokens s c ts e v g .few))
+        absurd (omega (arith, few-numbers s c ts e v g t q))
     refused a x (read v g q m l) h = let z : _≡_ {A = ℕ} 0 1 = cc in absurd (omega arith)
 
   read-tree : (a : ClauseAnswer) (x : List ℕ) (nodes : ℕ) (e : Cursor) → Outcome s c tree a x → a ≡ Read nodes e → ReadTree s c x nodes e
-  read-tree a x nodes e (invalid v) h = let z : _≡_ {A = ℕ} 0 1 = cc in absurd (omega arith)
-  read-tree a x nodes e (token v g) h = let z : _≡_ {A = ℕ} 0 1 = cc in absurd (omega arith)
-  read-tree a x nodes e (noMark v g) h = let z : _≡_ {A = ℕ} 0 1 = cc in absurd (omega arith)
-  read-tree a x nodes e (noReading v g q) h = let z : _≡_ {A = ℕ} 0 1 = cc in absurd (omega arith)
-  read-tree a x nodes e (noRoom v g q l) h = let z : _≡_ {A = ℕ} 0 1 = cc in absurd (omega arith)
-  read-tree a x nodes e (read {ts} {e = f} {t = t} {n = k} v g q m l) h =
-      let same : k ≡ nodes = cc in
-      let mark : f ≡ e = cc in
-      let many : nodes * 2 ≡ length (numbers t) = omega arith in
-      record {
-        valid-cursor = v;
-        tokens = ts;
-        gathered = cc;
-        tree = t;
-        reads = q;
-        inside = omega (arith, length-sets tree 0 (numbers t));
-        same = ap (λ (i : ℕ). take i (sets tree 0 (numbers t))) many ∙ sets-front tree (numbers t) l;
-      }
+  read-tree = read-front s c tree
 
 ruleset ways = (refused, read-tree, needs)
 

@@ -13,7 +13,6 @@ use Rattle.lexer.specs.Cursor.{valid}
 use Rattle.lexer.specs.Refusal.{fault}
 use Rattle.lexer.specs.declared.cursor.Cursor.{Cursor}
 use Rattle.lexer.specs.declared.refusal.Refusal.the-variants as refusal
-use Rattle.lexer.proofs.Theorems.{is-valid}
 use Rattle.reader.specs.Ops.{operators}
 use Rattle.reader.specs.Token.{Token}
 use Rattle.reader.specs.Clause.{mostTokens, firstOffset}
@@ -22,10 +21,9 @@ use Rattle.reader.specs.LineCall.{LineOutcome, noRoom, read, ReadTree, S
 use Rattle.reader.specs.declared.line_call.LineAnswer.{LineAnswer}
 use Rattle.reader.specs.declared.listing.Listed.{Listed}
 use Rattle.reader.specs.declared.listing.Listed.the-variants.{Line, NoRoom}
-use Rattle.reader.proofs.Chains.{source-of}
-use Rattle.reader.proofs.Indexes.{reads-within}
 use Rattle.reader.proofs.Lines.{lists-line}
 use Rattle.reader.proofs.Spans.{Few, gathered-few}
+use Rattle.reader.proofs.TreeRoom.{tree-within, spans-source}
 use Rattle.reader.proofs.line_call.write_line.Statement.{statement}
 use Rattle.reader.proofs.line_call.write_line.Tie as tie
 
@@ -70,7 +68,7 @@ module _ (s : List ℕ) (c : Cursor) (ms : List ℕ) (nodes : ℕ) (e : Cursor) 
   few = gathered-few mostTokens s c (w .tokens) e (w .valid-cursor) (w .gathered)
 
   within : Within (length (w .tokens)) (w .tree)
-  within = reads-within operators (w .tokens) (w .tree) (few .few) (w .reads)
+  within = tree-within s c (w .tokens) e (w .valid-cursor) (w .gathered) (w .tree) (w .reads)
 
   module _ (starts ends : List ℕ) (p : Spans s c starts ends) (f : length starts ≡ 1024) (g : length ends ≡ 1024) where
     its : Fronts (w .tokens) starts ends
@@ -81,8 +79,7 @@ module _ (s : List ℕ) (c : Cursor) (ms : List ℕ) (nodes : ℕ) (e : Cursor) 
         record {
           tokens = length (w .tokens);
           source =
-              source-of s starts ends (w .tokens) (c .offset) (is-valid (length s) c (w .valid-cursor) .short) (omega (arith, few .few)) (omega (arith, few .few))
-              (its .starts-same) (its .ends-same) (few .chain);
+              spans-source s c (w .tokens) e (w .valid-cursor) (w .gathered) starts ends p (omega arith) (omega arith);
           within = within;
           whole = w .inside;
           same = w .same;

@@ -1,0 +1,100 @@
+-- The clause call with a tree slice that has room for every clause, and the spans of the clause's tokens: what the calls above it go by. Assumes nothing.
+use Prim.Native.Nat.{ℕ, _+_, _*_, _<_, _≤_}
+use mathlib.Core.Path.{_≡_, refl, sym, _∙_, ap, subst}
+use mathlib.Core.Bool.{true}
+use mathlib.Core.List.{List}
+use native.Mathlib.Omega.{arith}
+use lib.ListN.{length, getD, take, List·getD-map}
+use lib.Seq.{sets, length-sets}
+use Rattle.lexer.specs.Cursor.{valid, part}
+use Rattle.lexer.specs.declared.cursor.Cursor.{Cursor}
+use Rattle.lexer.specs.declared.refusal.Fault.{Fault}
+use Rattle.lexer.proofs.Theorems.{is-valid}
+use Rattle.reader.specs.Token.{Token}
+use Rattle.reader.specs.Ops.{operators}
+use Rattle.reader.specs.Tree.{Tree, numbers}
+use Rattle.reader.specs.Grammar.{Reads}
+use Rattle.reader.specs.Clause.{mostTokens, whole, clauseTokens, Outcome, invalid, token, noMark, noReading, noRoom, read}
+use Rattle.reader.specs.Listing.{tokenAt, Source, Within}
+use Rattle.reader.specs.LineCall.{ReadTree, Spans}
+use Rattle.reader.specs.declared.clause.ClauseAnswer.{ClauseAnswer}
+use Rattle.reader.specs.declared.clause.ClauseAnswer.the-variants.{Read, Refused}
+use Rattle.reader.proofs.Answer.{tree-small}
+use Rattle.reader.proofs.Chains.{front-at, source-of}
+use Rattle.reader.proofs.Indexes.{reads-within}
+use Rattle.reader.proofs.Puts.{sets-front}
+use Rattle.reader.proofs.Spans.{terminals-length, gathered-few}
+use Rattle.reader.proofs.Table.{fair, operators-admitted}
+
+module _ (s : List ℕ) (c : Cursor) where
+  module _ (ts : List Token) (e : Cursor) (v : valid (length s) c ≡ true) (g : clauseTokens s c ≡ whole ts e) where
+    -- two numbers a node, and fewer nodes than tokens
+    pub few-numbers : (t : Tree) → Reads operators ts t → length (numbers t) + 2 ≤ 2 * mostTokens
+    few-numbers t q =
+        omega
+        (arith, tree-small operators (fair operators operators-admitted) q, terminals-length 0 ts, gathered-few mostTokens s c ts e v g .few)
+
+    pub tree-within : (t : Tree) → Reads operators ts t → Within (length ts) t
+    tree-within t q = reads-within operators ts t (gathered-few mostTokens s c ts e v g .few) q
+
+    module _ (starts ends : List ℕ) (p : Spans s c starts ends) where
+      start-at : (i : ℕ) → i < length ts → getD starts i 0 ≡ tokenAt ts i .start
+      start-at i l = front-at (λ (k : Token). k .start) ts starts (p .fronts ts e g .starts-same) i l ∙ List·getD-map (λ (k : Token). k .start) ts i _
+
+      end-at : (i : ℕ) → i < length ts → getD ends i 0 ≡ tokenAt ts i .end
+      end-at i l = front-at (λ (k : Token). k .end) ts ends (p .fronts ts e g .ends-same) i l ∙ List·getD-map (λ (k : Token). k .end) ts i _
+
+      -- from the start of one token to the end of another
+      pub spans-part : (i j : ℕ) → i ≤ j → j < length ts → part (getD starts i 0) (getD ends j 0) s ≡ part (tokenAt ts i .start) (tokenAt ts j .end) s
+      spans-part i j l k = let m : i < length ts = omega arith in cc (start-at i m, end-at j k)
+
+      pub spans-source : mostTokens ≤ length starts → mostTokens ≤ length ends → Source s starts ends (length ts)
+      spans-source a b =
+          let few = gathered-few mostTokens s c ts e v g in
+          source-of s starts ends ts (c .offset) (is-valid (length s) c v .short) (omega (arith, few .few)) (omega (arith, few .few))
+          (p .fronts ts e g .starts-same) (p .fronts ts e g .ends-same) (few .chain)
+
+  module _ (d : List ℕ) where
+    -- what was read stands in front
+    pub read-front : (a : ClauseAnswer) (x : List ℕ) (nodes : ℕ) (e : Cursor) → Outcome s c d a x → a ≡ Read nodes e → ReadTree s c x nodes e
+    read-front a x nodes e (invalid v) h = let z : _≡_ {A = ℕ} 0 1 = cc in absurd (omega arith)
+    read-front a x nodes e (token v g) h = let z : _≡_ {A = ℕ} 0 1 = cc in absurd (omega arith)
+    read-front a x nodes e (noMark v g) h = let z : _≡_ {A = ℕ} 0 1 = cc in absurd (omega arith)
+    read-front a x nodes e (noReading v g q) h = let z : _≡_ {A = ℕ} 0 1 = cc in absurd (omega arith)
+    read-front a x nodes e (noRoom v g q l) h = let z : _≡_ {A = ℕ} 0 1 = cc in absurd (omega arith)
+    read-front a x nodes e (read {ts} {e = f} {t = t} {n = k} v g q m l) h =
+        let same : k ≡ nodes = cc in
+        let mark : f ≡ e = cc in
+        let many : nodes * 2 ≡ length (numbers t) = omega arith in
+        record {
+          valid-cursor = v;
+          tokens = ts;
+          gathered = cc;
+          tree = t;
+          reads = q;
+          inside = omega (arith, length-sets d 0 (numbers t));
+          same = ap (λ (i : ℕ). take i (sets d 0 (numbers t))) many ∙ sets-front d (numbers t) l;
+        }
+
+    -- refused, and not for room: refused so whatever the slice
+    module _ (l : 2 * mostTokens ≤ length d + 2) (w : Fault) (k : Cursor) where
+      abbrev Always : Type 0
+      Always = (y : List ℕ) → Outcome s c y (Refused w c) y
+
+      carry : (u : Fault) → Refused u c ≡ Refused w k → ((y : List ℕ) → Outcome s c y (Refused u c) y) → Always
+      carry u h o y = let e : u ≡ w = cc in subst (λ (f : Fault). Outcome s c y (Refused f c) y) e (o y)
+
+      pub refused-always : (a : ClauseAnswer) (x : List ℕ) → Outcome s c d a x → a ≡ Refused w k → Always
+      refused-always a x (invalid v) h = carry _ h (λ y. invalid v)
+      refused-always a x (token v g) h = carry _ h (λ y. token v g)
+      refused-always a x (noMark v g) h = carry _ h (λ y. noMark v g)
+      refused-always a x (noReading v g q) h = carry _ h (λ y. noReading v g q)
+      refused-always a x (noRoom {ts} {e} {t} v g q m) h = absurd (omega (arith, few-numbers ts e v g t q))
+      refused-always a x (read v g q m n) h = let z : _≡_ {A = ℕ} 0 1 = cc in absurd (omega arith)
+
+    pub refused-back : {w : Fault} {k : Cursor} {x : List ℕ} → Outcome s c d (Refused w k) x → k ≡ c
+    refused-back (invalid v) = refl
+    refused-back (token v g) = refl
+    refused-back (noMark v g) = refl
+    refused-back (noReading v g q) = refl
+    refused-back (noRoom v g q l) = refl
