@@ -1,0 +1,15 @@
+pub mod Basics
+pub mod Trees
+pub mod Scans
+pub mod Scanned
+pub mod Images
+pub mod Weights
+pub mod Weighing
+pub mod Packs
+pub mod Trips
+pub mod Outcomes
+pub mod Arities
+pub mod Clauses
+pub mod ClauseOutcomes
+pub mod Specimens
+pub mod Theorems

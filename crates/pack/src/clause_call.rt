@@ -1,0 +1,126 @@
+// A clause, from its text, as a pack.
+use crate::answers::ClausePackAnswer;
+use crate::answers::PackAnswer;
+use crate::writing::Given;
+use crate::writing::pack_nodes;
+use lexer::Cursor;
+use reader::ClauseAnswer;
+use reader::read_clause;
+use reader::span_tokens;
+ghost use mathlib.Core.Path.{_≡_};
+ghost use mathlib.Core.List.{[], _∷_};
+ghost use Prim.Native.Nat.{_≤_};
+ghost use lib.ListN.{length};
+ghost use lib.Seq.{sets};
+ghost use Rattle.reader.specs.LineCall.{ReadTree};
+ghost use Rattle.pack.specs.ClauseCall.{lastOf, ClausePack};
+ghost use Rattle.pack.specs.Image.{form1};
+ghost use Rattle.pack.specs.Numbering.{Half, NodeAt, GivenNode, PutGiven, fours, Numbering};
+
+fn wide(x: u16) -> usize
+    ensures { λ r. ⌜ Half x r ⌝ }
+{
+    x as usize
+}
+
+fn narrow(x: usize) -> u32
+    requires { ⌜ x ≤ 65535 ⌝ }
+    ensures { λ r. ⌜ r ≡ x ⌝ }
+{
+    x as u32
+}
+
+// The last token of a node's spelling: a negative number runs on to the number.
+fn last_of(kind: usize, token: usize) -> usize
+    requires { ⌜ token ≤ 65535 ⌝ }
+    ensures { λ r. ⌜ r ≡ lastOf kind token ⌝ }
+{
+    if kind == 1 {
+        return token + 1;
+    }
+    token
+}
+
+// A node of the tree, with its spelling as a part of the text.
+fn given_node(tree: &[u16], at: usize, starts: &[u16], ends: &[u16]) -> Given
+    requires { ⌜ NodeAt (now tree) at (now starts) (now ends) ⌝ }
+    ensures { λ r. ⌜ GivenNode (now (tree .entry)) at (now (starts .entry)) (now (ends .entry)) r ⌝ }
+{
+    let token = wide(tree[at]);
+    let packed = wide(tree[at + 1]);
+    let last = last_of(packed / 1024, token);
+    let start = wide(starts[token]);
+    Given {
+        kind: packed / 1024,
+        arity: packed % 1024,
+        start,
+        size: wide(ends[last]) - start,
+    }
+}
+
+fn put_given(it: Given, numbers: &mut [u32], place: usize)
+    requires { ⌜ PutGiven it (length (now numbers)) place ⌝ }
+    ensures { λ r. ⌜ now (numbers .exit) ≡ sets (now (numbers .entry)) place (it .kind ∷ it .arity ∷ it .start ∷ it .size ∷ []) ⌝ }
+{
+    numbers[place] = narrow(it.kind);
+    numbers[place + 1] = narrow(it.arity);
+    numbers[place + 2] = narrow(it.start);
+    numbers[place + 3] = narrow(it.size);
+}
+
+// The four numbers of each node.
+fn number_nodes(tree: &[u16], count: usize, starts: &[u16], ends: &[u16], numbers: &mut [u32])
+    requires { ⌜ Numbering (now tree) count (now starts) (now ends) (length (now numbers)) ⌝ }
+    ensures { λ r. ⌜ now (numbers .exit) ≡ sets (now (numbers .entry)) 0 (fours (now (starts .entry)) (now (ends .entry)) count (now (tree .entry))) ⌝ }
+{
+    let mut left = count;
+    let mut at: usize = 0;
+    let mut place: usize = 0;
+    while 0 < left {
+        let it = given_node(tree, at, starts, ends);
+        put_given(it, numbers, place);
+        at += 2;
+        place += 4;
+        left -= 1;
+    }
+}
+
+// The pack of the clause that was read into the tree.
+fn pack_read(
+    text: &[u8],
+    cursor: Cursor,
+    tree: &[u16],
+    nodes: usize,
+    next: Cursor,
+    out: &mut [u8],
+) -> ClausePackAnswer
+    requires { ⌜ ReadTree (now text) cursor (now tree) nodes next ⌝ }
+    ensures { λ r. ⌜ ClausePack form1 (now (text .entry)) cursor (now (out .entry)) r (now (out .exit)) ⌝ }
+{
+    let mut starts = [0u16; 1024];
+    let mut ends = [0u16; 1024];
+    span_tokens(text, cursor, &mut starts, &mut ends);
+    let mut numbers = [0u32; 4096];
+    number_nodes(tree, nodes, &starts, &ends, &mut numbers);
+    match pack_nodes(text, &numbers, nodes, out) {
+        PackAnswer::Packed(length) => ClausePackAnswer::Packed { length, next },
+        PackAnswer::Refused(fault) => ClausePackAnswer::Refused { fault, cursor },
+    }
+}
+
+// The clause call, and the pack of what it read: a clause has at most 1,023 nodes, so the tree has room.
+pub fn pack_clause(text: &[u8], cursor: Cursor, out: &mut [u8]) -> ClausePackAnswer
+    ensures { λ r. ⌜ ClausePack form1 (now (text .entry)) cursor (now (out .entry)) r (now (out .exit)) ⌝ }
+{
+    let mut tree = [0u16; 2048];
+    match read_clause(text, cursor, &mut tree) {
+        ClauseAnswer::Refused {
+            fault,
+            cursor: back,
+        } => ClausePackAnswer::Refused {
+            fault,
+            cursor: back,
+        },
+        ClauseAnswer::Read { nodes, next } => pack_read(text, cursor, &tree, nodes, next, out),
+    }
+}

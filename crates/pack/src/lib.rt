@@ -1,0 +1,13 @@
+// Packs: a clause in a radio message, and back. It stands above the tokenizer and the clause reader.
+mod answers;
+mod clause_call;
+mod kinds;
+mod reading;
+mod writing;
+
+pub use answers::ClausePackAnswer;
+pub use answers::PackAnswer;
+pub use answers::UnpackAnswer;
+pub use clause_call::pack_clause;
+pub use reading::unpack;
+pub use writing::pack_nodes;
