@@ -2,6 +2,7 @@
 use Prim.Native.Nat.{ℕ, _+_, _*_, _<_, _≤_}
 use mathlib.Core.Path.{_≡_, refl, sym, _∙_, ap, subst}
 use mathlib.Core.Bool.{Bool, true, false}
+use mathlib.Core.Logic.{_⊎_, inl, inr}
 use mathlib.Core.List.{List}
 use native.Mathlib.Omega.{arith}
 use borrow.Author.Tests.{leb-true, leb-false}
@@ -9,7 +10,9 @@ use lib.Dec.{leb}
 use lib.ListN.{length, take, replicate, length-replicate}
 use lib.Seq.{sets}
 use Rattle.lexer.specs.declared.cursor.Cursor.{Cursor}
+use Rattle.lexer.specs.Refusal.{fault}
 use Rattle.lexer.specs.declared.refusal.Fault.{Fault}
+use Rattle.lexer.specs.declared.refusal.Refusal.the-variants.{NoRoom, TooLong}
 use Rattle.reader.specs.Token.{Token}
 use Rattle.reader.specs.Ops.{operators}
 use Rattle.reader.specs.Tree.{Tree, numbers}
@@ -17,12 +20,16 @@ use Rattle.reader.specs.Grammar.{Reads}
 use Rattle.reader.specs.Clause.{whole, Outcome}
 use Rattle.reader.specs.declared.clause.ClauseAnswer.{ClauseAnswer}
 use Rattle.reader.proofs.Theorems.{unambiguity, table-admitted, an-outcome, clause-coincides, room-suffices, clause-refused, clause-back, clause-front}
-use Rattle.pack.specs.Node.{Node, most}
-use Rattle.pack.specs.Image.{Form, line, body, image, IsPack}
+use Rattle.pack.specs.Node.{Node, most, mostNodes}
+use Rattle.pack.specs.Image.{Form, form1, line, body, image, longestImage, IsPack}
+use Rattle.pack.specs.Calls.{Names, UnpackOutcome}
 use Rattle.pack.specs.ClauseCall.{ClauseAt, ClausePack, clauseNodes, refused, tooLong, noRoom, packed}
 use Rattle.pack.specs.declared.answers.ClausePackAnswer.{ClausePackAnswer}
 use Rattle.pack.specs.declared.answers.ClausePackAnswer.the-variants.{Packed, Refused}
+use Rattle.pack.specs.declared.answers.UnpackAnswer.{UnpackAnswer}
 use Rattle.pack.proofs.Basics.{sets-front}
+use Rattle.pack.proofs.Images.{image-length}
+use Rattle.pack.proofs.Trips.{left-name, unpacked-so}
 use Rattle.pack.proofs.Clauses.{clause-acceptable}
 
 -- a tree slice with room for every clause
@@ -130,4 +137,42 @@ clause-sent f v s c d r x n e (packed {ts} {e = k} {t = t} o l m) h =
             fits = l;
             same = ap (λ (j : ℕ). take j (sets d 0 (image f (clauseNodes s ts t)))) (sym q) ∙ sets-front d (image f (clauseNodes s ts t)) m;
           };
+    }
+
+-- a clause that has a reading is packed, or 13, or 9
+pub clause-packs : (f : Form) (s : List ℕ) (c : Cursor) (d : List ℕ) (ts : List Token) (e : Cursor) (t : Tree) → ClauseAt s c ts e t → {r : ClausePackAnswer} {x : List ℕ}
+    → ClausePack f s c d r x
+    → (r ≡ Packed (length (image f (clauseNodes s ts t))) e) ⊎ (r ≡ Refused (fault TooLong 0) c) ⊎ ((r ≡ Refused (fault NoRoom 0) c) × (length d < length (image f (clauseNodes s ts t))))
+clause-packs f s c d ts e t o (refused g) = absurd (never s c o g)
+clause-packs f s c d ts e t o (tooLong p l) = inr (inl refl)
+clause-packs f s c d ts e t o (noRoom p l m) = inr (inr (refl, omega (arith, ap length (same-image s c f d o p))))
+clause-packs f s c d ts e t o (packed p l m) = let i = same-image s c f d o p in let k = same-end s c o p in inl (cc)
+
+-- and with room for the longest image 9 does not arise
+pub clause-fits : (f : Form) (s : List ℕ) (c : Cursor) (d : List ℕ) → longestImage ≤ length d → {w : Fault} {x : List ℕ} → ClausePack f s c d (Refused w c) x
+    → ((tree : List ℕ) → Outcome s c tree (ClauseAnswer.Refused w c) tree) ⊎ (w ≡ fault TooLong 0)
+clause-fits f s c d l (refused g) = inl g
+clause-fits f s c d l (tooLong p m) = inr refl
+clause-fits f s c d l (noRoom {ts} {e} {t} p m n) = absurd (omega (arith, image-length f (clauseNodes s ts t)))
+
+-- unpacking the pack of a clause gives its kinds, arities and spellings
+pub record ClauseReceived (s : List ℕ) (c : Cursor) (e : Cursor) (i : List ℕ) (r : UnpackAnswer) (y : List ℕ) : Type 0 where
+  pub tokens : List Token
+  pub tree : Tree
+  pub at : ClauseAt s c tokens e tree
+  pub answer : r ≡ UnpackAnswer.Nodes (length (clauseNodes s tokens tree))
+  pub names : Names i (length (clauseNodes s tokens tree)) y (clauseNodes s tokens tree)
+
+pub clause-received : (s : List ℕ) (c : Cursor) (e : Cursor) (i d : List ℕ) (r : UnpackAnswer) (y : List ℕ) → ClauseSent form1 s c e i → 4 * mostNodes ≤ length d
+    → UnpackOutcome i d r y → ClauseReceived s c e i r y
+clause-received s c e i d r y p l o =
+    let ns = clauseNodes s (p .tokens) (p .tree) in
+    let k : 4 * length ns ≤ length d = omega (arith, p .is .acceptable .few) in
+    let g = unpacked-so i d ns r y (p .is) k o in
+    record {
+      tokens = p .tokens;
+      tree = p .tree;
+      at = p .at;
+      answer = g .answer;
+      names = subst (λ (z : List ℕ). Names i (length ns) z ns) (sym (g .slice)) (left-name form1 i ns (p .is) d k);
     }

@@ -76,11 +76,11 @@ last-by true i = (omega arith, omega arith)
 last-by false i = (omega arith, omega arith)
 
 pub last-late : (k i : ℕ) → i ≤ lastOf k i
-unfolding lastOf
+unfolding lastOf kindNumber
 last-late k i = last-by (eqb k 1) i .0
 
 pub last-near : (k i : ℕ) → lastOf k i ≤ i + 1
-unfolding lastOf
+unfolding lastOf kindNumber
 last-near k i = last-by (eqb k 1) i .1
 
 -- ---- the tree's numbers, one node behind the other

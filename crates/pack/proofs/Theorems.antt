@@ -1,84 +1,136 @@
--- What is proved of packs. Statements only: each cites its proof. Assumes nothing.
-use Prim.Native.Nat.{ℕ, _+_, _*_, _≤_}
+-- What is proved of packs: of the format, over the form; of the calls on nodes and images; of a clause. Statements only: each cites its proof. Assumes
+-- nothing.
+use Prim.Native.Nat.{ℕ, _+_, _*_, _<_, _≤_}
 use mathlib.Core.Path.{_≡_, sym, _∙_}
 use mathlib.Core.Bool.{true}
+use mathlib.Core.Logic.{_⊎_}
 use mathlib.Core.List.{List}
 use lib.ListN.{length, take}
 use lib.Seq.{sets}
-use Rattle.pack.specs.Node.{Node, Tree, nodes, most}
-use Rattle.pack.specs.Image.{Form, form1, line, IsPack}
+use Rattle.lexer.specs.Refusal.{fault}
+use Rattle.lexer.specs.declared.cursor.Cursor.{Cursor}
+use Rattle.lexer.specs.declared.refusal.Fault.{Fault}
+use Rattle.lexer.specs.declared.refusal.Refusal.the-variants.{NoRoom, TooLong}
+use Rattle.reader.specs.Token.{Token}
+use Rattle.reader.specs.Tree.{Tree}
+use Rattle.reader.specs.Clause.{Outcome}
+use Rattle.reader.specs.declared.clause.ClauseAnswer.{ClauseAnswer}
+use Rattle.reader.proofs.Specimens.{All}
+use Rattle.pack.specs.Node.{Node, nodes, most, mostNodes, Acceptable}
+use Rattle.pack.specs.Node as N
+use Rattle.pack.specs.Image.{Form, form1, line, image, longestImage, IsPack}
 use Rattle.pack.specs.Calls.{Names, parts, begins, PackOutcome, UnpackOutcome}
+use Rattle.pack.specs.ClauseCall.{clauseNodes, ClauseAt, ClausePack}
 use Rattle.pack.specs.declared.answers.PackAnswer.{PackAnswer}
 use Rattle.pack.specs.declared.answers.UnpackAnswer.{UnpackAnswer}
-use Rattle.lexer.specs.declared.cursor.Cursor.{Cursor}
-use Rattle.pack.specs.ClauseCall.{ClausePack}
 use Rattle.pack.specs.declared.answers.ClausePackAnswer.{ClausePackAnswer}
+use Rattle.pack.specs.declared.answers.ClausePackAnswer.the-variants.{Packed, Refused}
 use Rattle.pack.proofs.Basics.{Bytes}
-use Rattle.pack.proofs.ClauseOutcomes.{some-clause-pack, one-clause-pack}
 use Rattle.pack.proofs.Trees.{stacked, Rooted, tree-stacked, stacked-tree}
 use Rattle.pack.proofs.Images.{pack-form, pack-one}
-use Rattle.pack.proofs.Specimens.{All, table, specimens, Each, images, refused}
 use Rattle.pack.proofs.Trips as T
 use Rattle.pack.proofs.Outcomes.{one-pack, some-pack, one-unpack, some-unpack}
+use Rattle.pack.proofs.Clauses as K
+use Rattle.pack.proofs.ClauseOutcomes as C
+use Rattle.pack.proofs.Specimens.{Packs, clauses, packs, Unpacks, images, unpacks}
+
+-- ---- the format
 
 -- An image is the pack of one list of nodes at most, in one form at most: nobody can read it as another clause.
 pub one-reading : (f g : Form) (i : List ℕ) (ns ms : List Node) → IsPack f i ns → IsPack g i ms → (f ≡ g) × (ns ≡ ms)
 one-reading f g i ns ms p q = (pack-form f g i ns ms p q, pack-one f g i ns ms p q)
 
--- Nodes have one image in each form: no byte can be changed that leaves the clause as it was.
+-- Nodes have one image in each form: no two images mean one clause.
 pub one-image : (f : Form) (i j : List ℕ) (ns : List Node) → IsPack f i ns → IsPack f j ns → i ≡ j
 one-image f i j ns p q = p .same ∙ sym (q .same)
 
--- Unpacking what was packed, in both forms: what packing leaves in front is a pack of the nodes that it was given ..
-pub sent : (f : Form) (bytes numbers : List ℕ) (count : ℕ) (d : List ℕ) (r : PackAnswer) (d′ : List ℕ) (n : ℕ) → line f ≤ most → PackOutcome f bytes numbers count d r d′
-    → r ≡ PackAnswer.Packed n → T.Sent f bytes numbers count (take n d′)
+-- Nodes are those of one tree exactly if a count of trees that stand, node by node, ends at one.
+pub a-tree : (t : N.Tree) → stacked 0 (nodes t) ≡ true
+a-tree = tree-stacked
+
+pub no-other : (ns : List Node) → stacked 0 ns ≡ true → Rooted ns
+no-other = stacked-tree
+
+-- ---- unpacking and packing of nodes
+
+-- Unpacking accepts exactly the images of acceptable nodes, given room for 1,023 nodes.
+module _ (i d : List ℕ) (room : 4 * mostNodes ≤ length d) (r : UnpackAnswer) (x : List ℕ) (o : UnpackOutcome i d r x) where
+  pub every-pack-accepted : (ns : List Node) → IsPack form1 i ns → r ≡ UnpackAnswer.Nodes (length ns)
+  every-pack-accepted ns = T.accepts-pack i d room ns r x o
+
+  pub only-packs-accepted : (n : ℕ) → r ≡ UnpackAnswer.Nodes n → (ns : List Node) × IsPack form1 i ns
+  only-packs-accepted n = T.accepted-pack i d room n r x o
+
+-- A pack that is unpacked with room gives its nodes and nothing else.
+pub unpacked-so : (i d : List ℕ) (ns : List Node) (r : UnpackAnswer) (x : List ℕ) → IsPack form1 i ns → 4 * length ns ≤ length d → UnpackOutcome i d r x → T.Got i d ns r x
+unpacked-so = T.unpacked-so
+
+-- Unpacking what was packed: what packing leaves in front is a pack of the nodes that it was given ..
+pub sent : (f : Form) (bytes numbers : List ℕ) (count : ℕ) (d : List ℕ) (r : PackAnswer) (x : List ℕ) (n : ℕ) → line f ≤ most → PackOutcome f bytes numbers count d r x
+    → r ≡ PackAnswer.Packed n → T.Sent f bytes numbers count (take n x)
 sent = T.sent
 
 -- .. and the numbers that unpacking leaves name those nodes: their kinds, arities and spellings.
 pub received : (f : Form) (i : List ℕ) (ns : List Node) → IsPack f i ns → (d : List ℕ) → 4 * length ns ≤ length d → Names i (length ns) (sets d 0 (parts (begins f) ns)) ns
 received = T.left-name
 
--- Packing what was unpacked gives the same bytes, in both forms.
-pub returned : (f : Form) (i : List ℕ) (ns : List Node) (d e : List ℕ) (r : PackAnswer) (e′ : List ℕ) → IsPack f i ns → 4 * length ns ≤ length d → length i ≤ length e
-    → PackOutcome f i (sets d 0 (parts (begins f) ns)) (length ns) e r e′ → T.Both f i e r e′
+-- Packing what was unpacked gives the same bytes.
+pub returned : (f : Form) (i : List ℕ) (ns : List Node) (d e : List ℕ) (r : PackAnswer) (x : List ℕ) → IsPack f i ns → 4 * length ns ≤ length d → length i ≤ length e
+    → PackOutcome f i (sets d 0 (parts (begins f) ns)) (length ns) e r x → T.Both f i e r x
 returned = T.pack-unpacked
 
--- A pack that is unpacked with room gives its nodes and nothing else.
-pub unpacked-so : (i d : List ℕ) (ns : List Node) (r : UnpackAnswer) (d′ : List ℕ) → IsPack form1 i ns → 4 * length ns ≤ length d → UnpackOutcome i d r d′ → T.Got i d ns r d′
-unpacked-so = T.unpacked-so
+-- ---- a clause
 
--- One answer and one content of the slice are permitted.
+-- The nodes of a clause are acceptable, so 14 never arises.
+pub clause-acceptable : (s : List ℕ) (c : Cursor) (ts : List Token) (e : Cursor) (t : Tree) → ClauseAt s c ts e t → Acceptable (clauseNodes s ts t)
+clause-acceptable = K.clause-acceptable
+
+-- Every clause that has a reading is packed, but for 13 and 9; 9 only where the slice is shorter than the image.
+pub clause-packs : (f : Form) (s : List ℕ) (c : Cursor) (d : List ℕ) (ts : List Token) (e : Cursor) (t : Tree) → ClauseAt s c ts e t → {r : ClausePackAnswer} {x : List ℕ}
+    → ClausePack f s c d r x
+    → (r ≡ Packed (length (image f (clauseNodes s ts t))) e) ⊎ (r ≡ Refused (fault TooLong 0) c) ⊎ ((r ≡ Refused (fault NoRoom 0) c) × (length d < length (image f (clauseNodes s ts t))))
+clause-packs = C.clause-packs
+
+-- With a slice of 65,538 bytes a refusal is the clause call's, or 13.
+pub clause-fits : (f : Form) (s : List ℕ) (c : Cursor) (d : List ℕ) → longestImage ≤ length d → {w : Fault} {x : List ℕ} → ClausePack f s c d (Refused w c) x
+    → ((tree : List ℕ) → Outcome s c tree (ClauseAnswer.Refused w c) tree) ⊎ (w ≡ fault TooLong 0)
+clause-fits = C.clause-fits
+
+-- What packing a clause leaves in front is the pack of its nodes ..
+pub clause-sent : (f : Form) → line f ≤ most → (s : List ℕ) (c : Cursor) (d : List ℕ) (r : ClausePackAnswer) (x : List ℕ) (n : ℕ) (e : Cursor) → ClausePack f s c d r x → r ≡ Packed n e
+    → C.ClauseSent f s c e (take n x)
+clause-sent = C.clause-sent
+
+-- .. and unpacking it gives the clause's kinds, arities and spellings.
+pub clause-received : (s : List ℕ) (c : Cursor) (e : Cursor) (i d : List ℕ) (r : UnpackAnswer) (x : List ℕ) → C.ClauseSent form1 s c e i → 4 * mostNodes ≤ length d
+    → UnpackOutcome i d r x → C.ClauseReceived s c e i r x
+clause-received = C.clause-received
+
+-- ---- one answer and one content of the slice are permitted: there is one, and two coincide
 module _ (f : Form) (bytes numbers : List ℕ) (n : ℕ) (d : List ℕ) where
-  pub a-pack : (r : PackAnswer) × (d′ : List ℕ) × PackOutcome f bytes numbers n d r d′
+  pub a-pack : (r : PackAnswer) × (x : List ℕ) × PackOutcome f bytes numbers n d r x
   a-pack = some-pack f bytes numbers n d
 
-  pub pack-coincides : {r r′ : PackAnswer} {d′ d″ : List ℕ} → PackOutcome f bytes numbers n d r d′ → PackOutcome f bytes numbers n d r′ d″ → (r ≡ r′) × (d′ ≡ d″)
+  pub pack-coincides : {r r′ : PackAnswer} {x x′ : List ℕ} → PackOutcome f bytes numbers n d r x → PackOutcome f bytes numbers n d r′ x′ → (r ≡ r′) × (x ≡ x′)
   pack-coincides = one-pack f bytes numbers n d
 
 module _ (i d : List ℕ) where
-  pub an-unpack : Bytes i → (r : UnpackAnswer) × (d′ : List ℕ) × UnpackOutcome i d r d′
+  pub an-unpack : Bytes i → (r : UnpackAnswer) × (x : List ℕ) × UnpackOutcome i d r x
   an-unpack = some-unpack i d
 
-  pub unpack-coincides : {r r′ : UnpackAnswer} {d′ d″ : List ℕ} → UnpackOutcome i d r d′ → UnpackOutcome i d r′ d″ → (r ≡ r′) × (d′ ≡ d″)
+  pub unpack-coincides : {r r′ : UnpackAnswer} {x x′ : List ℕ} → UnpackOutcome i d r x → UnpackOutcome i d r′ x′ → (r ≡ r′) × (x ≡ x′)
   unpack-coincides = one-unpack i d
 
 module _ (f : Form) (s : List ℕ) (c : Cursor) (d : List ℕ) where
   pub a-clause-pack : (r : ClausePackAnswer) × (x : List ℕ) × ClausePack f s c d r x
-  a-clause-pack = some-clause-pack s c f d
+  a-clause-pack = C.some-clause-pack s c f d
 
   pub clause-pack-coincides : {r r′ : ClausePackAnswer} {x x′ : List ℕ} → ClausePack f s c d r x → ClausePack f s c d r′ x′ → (r ≡ r′) × (x ≡ x′)
-  clause-pack-coincides = one-clause-pack s c f d
+  clause-pack-coincides = C.one-clause-pack s c f d
 
--- Nodes are those of one tree exactly if a count of trees that stand, node by node, ends at one.
-pub a-tree : (t : Tree) → stacked 0 (nodes t) ≡ true
-a-tree = tree-stacked
+-- ---- specimens, from their bytes: a clause of each kind and its image; images, and the count of their nodes or none
+pub clause-images : All Packs clauses
+clause-images = packs
 
-pub no-other : (ns : List Node) → stacked 0 ns ≡ true → Rooted ns
-no-other = stacked-tree
-
--- Packs of eight clauses and of one in form 2, and nine images that are none, as a model of the format gave them.
-pub packs : All table
-packs = specimens
-
-pub images-refused : Each images
-images-refused = refused
+pub image-nodes : All Unpacks images
+image-nodes = unpacks

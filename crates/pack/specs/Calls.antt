@@ -4,13 +4,11 @@ use mathlib.Core.List.{List, [], _∷_}
 use lib.ListN.{length, take, drop}
 use lib.Seq.{sets}
 use Rattle.pack.specs.Node.{Node, aNode, most, Acceptable}
-use Rattle.pack.specs.Image.{Form, form1, line, lineBytes, body, image, IsPack}
+use Rattle.pack.specs.Image.{Form, form1, lineBytes, body, image, IsPack}
 use Rattle.lexer.specs.Refusal.{fault}
 use Rattle.lexer.specs.declared.refusal.Refusal.the-variants.{NoRoom, TooLong, NoPack}
 use Rattle.pack.specs.declared.answers.PackAnswer.{PackAnswer}
-use Rattle.pack.specs.declared.answers.PackAnswer as P
 use Rattle.pack.specs.declared.answers.UnpackAnswer.{UnpackAnswer}
-use Rattle.pack.specs.declared.answers.UnpackAnswer as U
 
 -- four numbers a node: kind, arity, and the start and the length of its spelling in the bytes. So many of them name these nodes
 pub data Names (bytes : List ℕ) : ℕ → List ℕ → List Node → Type 0 where

@@ -13,19 +13,19 @@ use Rattle.lexer.specs.declared.refusal.Fault.{Fault}
 use Rattle.lexer.specs.declared.refusal.Refusal.the-variants.{NoRoom, TooLong}
 use Rattle.reader.specs.Token.{Token}
 use Rattle.reader.specs.Ops.{operators}
-use Rattle.reader.specs.Tree.{NodeKind, kindNumber, Tree, node, Forest, nil, _◂_, arity}
+use Rattle.reader.specs.Tree.{NodeKind, negative, kindNumber, Tree, node, Forest, nil, _◂_, arity}
 use Rattle.reader.specs.Grammar.{Reads}
 use Rattle.reader.specs.Clause.{whole, clauseTokens, Outcome}
 use Rattle.reader.specs.Listing.{tokenAt}
 use Rattle.reader.specs.declared.clause.ClauseAnswer.{ClauseAnswer}
-use Rattle.pack.specs.Node.{Node, aNode, negative, most}
+use Rattle.pack.specs.Node.{Node, aNode, most}
 use Rattle.pack.specs.Image.{Form, body, image}
 use Rattle.pack.specs.declared.answers.ClausePackAnswer.{ClausePackAnswer}
 use Rattle.pack.specs.declared.answers.ClausePackAnswer.the-variants.{Packed, Refused}
 
 -- "The spelling is the token's source bytes; for kind 1 it runs on to the number's end": the spelling's last token, of a node at the token i
 unfoldable pub lastOf : ℕ → ℕ → ℕ
-lastOf kind i = cond (eqb kind negative) (i + 1) i
+lastOf kind i = cond (eqb kind (kindNumber negative)) (i + 1) i
 
 -- over the bytes from the start of one token to the end of another
 module _ (word : ℕ → ℕ → List ℕ) where

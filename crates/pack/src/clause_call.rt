@@ -1,6 +1,7 @@
 // A clause, from its text, as a pack.
 use crate::answers::ClausePackAnswer;
 use crate::answers::PackAnswer;
+use crate::kinds::NEGATIVE;
 use crate::writing::Given;
 use crate::writing::pack_nodes;
 use lexer::Cursor;
@@ -35,7 +36,7 @@ fn last_of(kind: usize, token: usize) -> usize
     requires { ⌜ token ≤ 65535 ⌝ }
     ensures { λ r. ⌜ r ≡ lastOf kind token ⌝ }
 {
-    if kind == 1 {
+    if kind == NEGATIVE {
         return token + 1;
     }
     token
