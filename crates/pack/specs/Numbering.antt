@@ -13,10 +13,6 @@ use Rattle.pack.specs.declared.writing.Given.{Given}
 abbrev pub lastAt : ℕ → ℕ → ℕ
 lastAt p i = lastOf (p / 1024) i
 
-pub record Half (x r : ℕ) : Type 0 where
-  pub same : r ≡ x
-  pub below : r ≤ most
-
 -- a node of the tree at an offset, whose tokens have spans
 pub record NodeAt (ms : List ℕ) (at : ℕ) (starts ends : List ℕ) : Type 0 where
   pub both : at + 2 ≤ length ms

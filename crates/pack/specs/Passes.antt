@@ -20,6 +20,23 @@ use Rattle.pack.specs.declared.writing.Given.{Given}
 use Rattle.pack.specs.declared.writing.Weighed.{Weighed}
 use Rattle.pack.specs.declared.writing.Weighed.the-variants.{Bytes, NoTree}
 
+-- ---- numbers
+
+-- the greatest of 8, of 16 and of 32 bits
+abbrev pub mostByte : ℕ
+mostByte = 255
+
+abbrev pub mostHalf : ℕ
+mostHalf = 65535
+
+abbrev pub mostNumber : ℕ
+mostNumber = 4294967295
+
+-- the same number, of more bits
+pub record Widened (bound x r : ℕ) : Type 0 where
+  pub same : r ≡ x
+  pub below : r ≤ bound
+
 -- ---- reading
 
 abbrev pub word : ℕ → ℕ → ℕ
@@ -31,11 +48,6 @@ wordAt s at = word (getD s at 0) (getD s (at + 1) 0)
 -- room for so many bytes at `at`
 pub record Inside (s : List ℕ) (at n : ℕ) : Type 0 where
   pub inside : at + n ≤ length s
-
--- a byte, widened
-pub record Byte (x r : ℕ) : Type 0 where
-  pub same : r ≡ x
-  pub below : r ≤ 255
 
 pub record Word (s : List ℕ) (at r : ℕ) : Type 0 where
   pub same : r ≡ wordAt s at
@@ -136,10 +148,6 @@ weighed bytes (suc n) k w (b ∷ a ∷ at ∷ l ∷ ns) =
     (cond (leb (at + l) (length bytes))
     (cond (canHave b a)
     (cond (leb a k) (weighed bytes n (k - a + 1) (w + 5 + l) ns) NoTree) NoTree) NoTree) NoTree
-
-pub record Number (x r : ℕ) : Type 0 where
-  pub same : r ≡ x
-  pub below : r ≤ 4294967295
 
 -- the four numbers of a node
 pub record GivenAt (ns : List ℕ) (place : ℕ) (r : Given) : Type 0 where

@@ -1,7 +1,11 @@
 // A clause, from its text, as a pack.
 use crate::answers::ClausePackAnswer;
 use crate::answers::PackAnswer;
+use crate::format::NUMBERS;
+use crate::kinds::KIND_UNIT;
 use crate::kinds::NEGATIVE;
+use crate::widths::of_half;
+use crate::widths::to_number;
 use crate::writing::Given;
 use crate::writing::pack_nodes;
 use lexer::Cursor;
@@ -16,20 +20,7 @@ ghost use lib.Seq.{sets};
 ghost use Rattle.reader.specs.LineCall.{ReadTree};
 ghost use Rattle.pack.specs.ClauseCall.{lastOf, ClausePack};
 ghost use Rattle.pack.specs.Image.{form1};
-ghost use Rattle.pack.specs.Numbering.{Half, NodeAt, GivenNode, PutGiven, fours, Numbering};
-
-fn wide(x: u16) -> usize
-    ensures { λ r. ⌜ Half x r ⌝ }
-{
-    x as usize
-}
-
-fn narrow(x: usize) -> u32
-    requires { ⌜ x ≤ 65535 ⌝ }
-    ensures { λ r. ⌜ r ≡ x ⌝ }
-{
-    x as u32
-}
+ghost use Rattle.pack.specs.Numbering.{NodeAt, GivenNode, PutGiven, fours, Numbering};
 
 // The last token of a node's spelling: a negative number runs on to the number.
 fn last_of(kind: usize, token: usize) -> usize
@@ -47,15 +38,15 @@ fn given_node(tree: &[u16], at: usize, starts: &[u16], ends: &[u16]) -> Given
     requires { ⌜ NodeAt (now tree) at (now starts) (now ends) ⌝ }
     ensures { λ r. ⌜ GivenNode (now (tree .entry)) at (now (starts .entry)) (now (ends .entry)) r ⌝ }
 {
-    let token = wide(tree[at]);
-    let packed = wide(tree[at + 1]);
-    let last = last_of(packed / 1024, token);
-    let start = wide(starts[token]);
+    let token = of_half(tree[at]);
+    let packed = of_half(tree[at + 1]);
+    let last = last_of(packed / KIND_UNIT, token);
+    let start = of_half(starts[token]);
     Given {
-        kind: packed / 1024,
-        arity: packed % 1024,
+        kind: packed / KIND_UNIT,
+        arity: packed % KIND_UNIT,
         start,
-        size: wide(ends[last]) - start,
+        size: of_half(ends[last]) - start,
     }
 }
 
@@ -63,10 +54,10 @@ fn put_given(it: Given, numbers: &mut [u32], place: usize)
     requires { ⌜ PutGiven it (length (now numbers)) place ⌝ }
     ensures { λ r. ⌜ now (numbers .exit) ≡ sets (now (numbers .entry)) place (it .kind ∷ it .arity ∷ it .start ∷ it .size ∷ []) ⌝ }
 {
-    numbers[place] = narrow(it.kind);
-    numbers[place + 1] = narrow(it.arity);
-    numbers[place + 2] = narrow(it.start);
-    numbers[place + 3] = narrow(it.size);
+    numbers[place] = to_number(it.kind);
+    numbers[place + 1] = to_number(it.arity);
+    numbers[place + 2] = to_number(it.start);
+    numbers[place + 3] = to_number(it.size);
 }
 
 // The four numbers of each node.
@@ -81,7 +72,7 @@ fn number_nodes(tree: &[u16], count: usize, starts: &[u16], ends: &[u16], number
         let it = given_node(tree, at, starts, ends);
         put_given(it, numbers, place);
         at += 2;
-        place += 4;
+        place += NUMBERS;
         left -= 1;
     }
 }

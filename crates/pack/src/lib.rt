@@ -1,8 +1,10 @@
 // Packs: a clause in a radio message, and back. It stands above the tokenizer and the clause reader.
 mod answers;
 mod clause_call;
+mod format;
 mod kinds;
 mod reading;
+mod widths;
 mod writing;
 
 pub use answers::ClausePackAnswer;

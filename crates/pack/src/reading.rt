@@ -2,15 +2,23 @@
 use crate::answers::NO_PACK;
 use crate::answers::NO_ROOM;
 use crate::answers::UnpackAnswer;
+use crate::format::BODY_AT;
+use crate::format::BYTE;
+use crate::format::FORM_1;
+use crate::format::FRONT;
+use crate::format::LENGTH_AT;
+use crate::format::MOST_NODES;
+use crate::format::NUMBERS;
 use crate::kinds::can_have;
+use crate::widths::of_byte;
+use crate::widths::to_number;
 ghost use mathlib.Core.Path.{_≡_};
-ghost use Prim.Native.Nat.{_+_, _≤_};
-ghost use lib.ListN.{length, getD, drop};
+ghost use lib.ListN.{drop};
 ghost use lib.Seq.{sets};
 ghost use Rattle.pack.specs.Calls.{UnpackOutcome};
-ghost use Rattle.pack.specs.Passes.{Inside, Byte, First, Word, Headed, scanned, Scanning, counted, Skips, listed, Listing, SomePack, PackListed};
+ghost use Rattle.pack.specs.Passes.{Inside, First, Word, Headed, scanned, Scanning, counted, Skips, listed, Listing, SomePack, PackListed};
 
-// A node's first five bytes.
+// What stands before a node's spelling.
 pub struct Head {
     pub kind: usize,
     pub arity: usize,
@@ -23,25 +31,12 @@ pub enum Counted {
     NoNodes,
 }
 
-fn wide(x: u8) -> usize
-    ensures { λ r. ⌜ Byte x r ⌝ }
-{
-    x as usize
-}
-
-fn narrow(x: usize) -> u32
-    requires { ⌜ x ≤ 4294967295 ⌝ }
-    ensures { λ r. ⌜ r ≡ x ⌝ }
-{
-    x as u32
-}
-
 // The version byte.
 pub(crate) fn version_of(s: &[u8]) -> usize
     requires { ⌜ Inside (now s) 0 1 ⌝ }
     ensures { λ r. ⌜ First (now (s .entry)) r ⌝ }
 {
-    wide(s[0])
+    of_byte(s[0])
 }
 
 // Two bytes, the higher first.
@@ -49,7 +44,7 @@ fn word_at(s: &[u8], at: usize) -> usize
     requires { ⌜ Inside (now s) at 2 ⌝ }
     ensures { λ r. ⌜ Word (now (s .entry)) at r ⌝ }
 {
-    wide(s[at]) * 256 + wide(s[at + 1])
+    of_byte(s[at]) * BYTE + of_byte(s[at + 1])
 }
 
 fn head_at(s: &[u8], at: usize) -> Head
@@ -57,7 +52,7 @@ fn head_at(s: &[u8], at: usize) -> Head
     ensures { λ r. ⌜ Headed (now (s .entry)) at r ⌝ }
 {
     Head {
-        kind: wide(s[at]),
+        kind: of_byte(s[at]),
         arity: word_at(s, at + 1),
         size: word_at(s, at + 3),
     }
@@ -72,11 +67,11 @@ fn scan(s: &[u8], from: usize, count: usize) -> bool
     let mut left = count;
     let mut trees: usize = 0;
     while 0 < left {
-        if s.len() - at < 5 {
+        if s.len() - at < FRONT {
             return false;
         }
         let head = head_at(s, at);
-        if s.len() - at - 5 < head.size {
+        if s.len() - at - FRONT < head.size {
             return false;
         }
         if !can_have(head.kind, head.arity) {
@@ -86,7 +81,7 @@ fn scan(s: &[u8], from: usize, count: usize) -> bool
             return false;
         }
         trees = trees - head.arity + 1;
-        at = at + 5 + head.size;
+        at = at + FRONT + head.size;
         left -= 1;
     }
     if at < s.len() {
@@ -100,17 +95,17 @@ pub(crate) fn count_nodes(s: &[u8], skip: usize) -> Counted
     requires { ⌜ Skips skip ⌝ }
     ensures { λ r. ⌜ r ≡ counted skip (now (s .entry)) ⌝ }
 {
-    if s.len() < skip + 5 {
+    if s.len() < skip + FRONT {
         return Counted::NoNodes;
     }
-    if word_at(s, 1) != s.len() - 3 {
+    if word_at(s, LENGTH_AT) != s.len() - BODY_AT {
         return Counted::NoNodes;
     }
-    let count = word_at(s, skip + 3);
-    if 1023 < count {
+    let count = word_at(s, skip + BODY_AT);
+    if MOST_NODES < count {
         return Counted::NoNodes;
     }
-    if scan(s, skip + 5, count) {
+    if scan(s, skip + FRONT, count) {
         return Counted::Nodes(count);
     }
     Counted::NoNodes
@@ -126,12 +121,12 @@ fn put_numbers(s: &[u8], from: usize, count: usize, nodes: &mut [u32])
     let mut place: usize = 0;
     while 0 < left {
         let head = head_at(s, at);
-        nodes[place] = narrow(head.kind);
-        nodes[place + 1] = narrow(head.arity);
-        nodes[place + 2] = narrow(at + 5);
-        nodes[place + 3] = narrow(head.size);
-        at = at + 5 + head.size;
-        place += 4;
+        nodes[place] = to_number(head.kind);
+        nodes[place + 1] = to_number(head.arity);
+        nodes[place + 2] = to_number(at + FRONT);
+        nodes[place + 3] = to_number(head.size);
+        at = at + FRONT + head.size;
+        place += NUMBERS;
         left -= 1;
     }
 }
@@ -141,25 +136,25 @@ fn list_pack(image: &[u8], from: usize, count: usize, nodes: &mut [u32]) -> Unpa
     requires { ⌜ SomePack (now image) from count ⌝ }
     ensures { λ r. ⌜ PackListed (now (image .entry)) from count (now (nodes .entry)) r (now (nodes .exit)) ⌝ }
 {
-    if nodes.len() / 4 < count {
+    if nodes.len() / NUMBERS < count {
         return UnpackAnswer::Refused(NO_ROOM);
     }
     put_numbers(image, from, count, nodes);
     UnpackAnswer::Nodes(count)
 }
 
-// Form 1 alone.
+// The nodes of a pack of form 1: four numbers each, with the spelling as a part of the image.
 pub fn unpack(image: &[u8], nodes: &mut [u32]) -> UnpackAnswer
     ensures { λ r. ⌜ UnpackOutcome (now (image .entry)) (now (nodes .entry)) r (now (nodes .exit)) ⌝ }
 {
     if image.len() < 1 {
         return UnpackAnswer::Refused(NO_PACK);
     }
-    if version_of(image) != 1 {
+    if version_of(image) != FORM_1 {
         return UnpackAnswer::Refused(NO_PACK);
     }
     match count_nodes(image, 0) {
         Counted::NoNodes => UnpackAnswer::Refused(NO_PACK),
-        Counted::Nodes(count) => list_pack(image, 5, count, nodes),
+        Counted::Nodes(count) => list_pack(image, FRONT, count, nodes),
     }
 }

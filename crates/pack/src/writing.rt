@@ -3,16 +3,26 @@ use crate::answers::NO_PACK;
 use crate::answers::NO_ROOM;
 use crate::answers::PackAnswer;
 use crate::answers::TOO_LONG;
+use crate::format::BODY_AT;
+use crate::format::BYTE;
+use crate::format::COUNT;
+use crate::format::FORM_1;
+use crate::format::FRONT;
+use crate::format::LONGEST_BODY;
+use crate::format::LONGEST_SPELLING;
+use crate::format::MOST_NODES;
+use crate::format::NUMBERS;
 use crate::kinds::can_have;
+use crate::widths::of_number;
+use crate::widths::to_byte;
 ghost use mathlib.Core.Path.{_≡_};
 ghost use mathlib.Core.List.{_∷_, _++_};
-ghost use Prim.Native.Nat.{_≤_};
 ghost use lib.ListN.{length, take, drop};
 ghost use lib.Seq.{sets};
 ghost use Rattle.pack.specs.Node.{aNode};
 ghost use Rattle.pack.specs.Image.{two, form1, nodeBytes};
 ghost use Rattle.pack.specs.Calls.{PackOutcome};
-ghost use Rattle.pack.specs.Passes.{Inside, Number, GivenAt, weighed, Weighing, PutWord, PutFront, PutPart, PutNode, laid, PutNodes, Weighs};
+ghost use Rattle.pack.specs.Passes.{Inside, GivenAt, weighed, Weighing, PutWord, PutFront, PutPart, PutNode, laid, PutNodes, Weighs};
 
 // A node as the caller gives it.
 pub struct Given {
@@ -28,31 +38,20 @@ pub enum Weighed {
     NoTree,
 }
 
-fn wide(x: u32) -> usize
-    ensures { λ r. ⌜ Number x r ⌝ }
-{
-    x as usize
-}
-
-fn narrow(x: usize) -> u8
-    requires { ⌜ x ≤ 255 ⌝ }
-    ensures { λ r. ⌜ r ≡ x ⌝ }
-{
-    x as u8
-}
-
+// The node whose numbers start at `place`.
 fn given_at(nodes: &[u32], place: usize) -> Given
     requires { ⌜ Inside (now nodes) place 4 ⌝ }
     ensures { λ r. ⌜ GivenAt (now (nodes .entry)) place r ⌝ }
 {
     Given {
-        kind: wide(nodes[place]),
-        arity: wide(nodes[place + 1]),
-        start: wide(nodes[place + 2]),
-        size: wide(nodes[place + 3]),
+        kind: of_number(nodes[place]),
+        arity: of_number(nodes[place + 1]),
+        start: of_number(nodes[place + 2]),
+        size: of_number(nodes[place + 3]),
     }
 }
 
+// One pass over the nodes: a tree that stands takes as many before it as its arity says, and one is left at the end.
 fn weigh(bytes: &[u8], nodes: &[u32], count: usize) -> Weighed
     requires { ⌜ Weighing (now nodes) count ⌝ }
     ensures { λ r. ⌜ r ≡ weighed (now (bytes .entry)) count 0 0 (now (nodes .entry)) ⌝ }
@@ -63,7 +62,7 @@ fn weigh(bytes: &[u8], nodes: &[u32], count: usize) -> Weighed
     let mut size: usize = 0;
     while 0 < left {
         let it = given_at(nodes, place);
-        if 65535 < it.size {
+        if LONGEST_SPELLING < it.size {
             return Weighed::NoTree;
         }
         if bytes.len() < it.start + it.size {
@@ -76,8 +75,8 @@ fn weigh(bytes: &[u8], nodes: &[u32], count: usize) -> Weighed
             return Weighed::NoTree;
         }
         trees = trees - it.arity + 1;
-        size = size + 5 + it.size;
-        place += 4;
+        size = size + FRONT + it.size;
+        place += NUMBERS;
         left -= 1;
     }
     if trees == 1 {
@@ -86,16 +85,18 @@ fn weigh(bytes: &[u8], nodes: &[u32], count: usize) -> Weighed
     Weighed::NoTree
 }
 
-// ---- writing: each puts bytes at `at`
+// ---- each puts bytes at `at`
 
+// Two bytes, the higher first.
 pub(crate) fn put_word(out: &mut [u8], at: usize, n: usize)
     requires { ⌜ PutWord (length (now out)) at n ⌝ }
     ensures { λ r. ⌜ now (out .exit) ≡ sets (now (out .entry)) at (two n) ⌝ }
 {
-    out[at] = narrow(n / 256);
-    out[at + 1] = narrow(n % 256);
+    out[at] = to_byte(n / BYTE);
+    out[at + 1] = to_byte(n % BYTE);
 }
 
+// A part of the bytes.
 pub(crate) fn put_part(bytes: &[u8], from: usize, size: usize, out: &mut [u8], at: usize)
     requires { ⌜ PutPart (length (now bytes)) from size (length (now out)) at ⌝ }
     ensures { λ r. ⌜ now (out .exit) ≡ sets (now (out .entry)) at (take size (drop from (now (bytes .entry)))) ⌝ }
@@ -111,24 +112,26 @@ pub(crate) fn put_part(bytes: &[u8], from: usize, size: usize, out: &mut [u8], a
     }
 }
 
-// A node's first five bytes.
+// A byte and two numbers: what stands before a pack's first node, and before a node's spelling.
 pub(crate) fn put_front(out: &mut [u8], at: usize, kind: usize, arity: usize, size: usize)
     requires { ⌜ PutFront (length (now out)) at kind arity size ⌝ }
     ensures { λ r. ⌜ now (out .exit) ≡ sets (now (out .entry)) at (kind ∷ (two arity ++ two size)) ⌝ }
 {
-    out[at] = narrow(kind);
+    out[at] = to_byte(kind);
     put_word(out, at + 1, arity);
     put_word(out, at + 3, size);
 }
 
+// A node with its spelling.
 fn put_node(bytes: &[u8], it: Given, out: &mut [u8], at: usize)
     requires { ⌜ PutNode (length (now bytes)) it (length (now out)) at ⌝ }
     ensures { λ r. ⌜ now (out .exit) ≡ sets (now (out .entry)) at (nodeBytes (aNode (it .kind) (it .arity) (take (it .size) (drop (it .start) (now (bytes .entry)))))) ⌝ }
 {
     put_front(out, at, it.kind, it.arity, it.size);
-    put_part(bytes, it.start, it.size, out, at + 5);
+    put_part(bytes, it.start, it.size, out, at + FRONT);
 }
 
+// The nodes, one behind the other.
 fn put_nodes(bytes: &[u8], nodes: &[u32], count: usize, out: &mut [u8], from: usize)
     requires { ⌜ PutNodes (now bytes) (now nodes) count (length (now out)) from ⌝ }
     ensures { λ r. ⌜ now (out .exit) ≡ sets (now (out .entry)) from (laid (now (bytes .entry)) count (now (nodes .entry))) ⌝ }
@@ -139,36 +142,37 @@ fn put_nodes(bytes: &[u8], nodes: &[u32], count: usize, out: &mut [u8], from: us
     while 0 < left {
         let it = given_at(nodes, place);
         put_node(bytes, it, out, at);
-        at = at + 5 + it.size;
-        place += 4;
+        at = at + FRONT + it.size;
+        place += NUMBERS;
         left -= 1;
     }
 }
 
+// The pack of nodes that were weighed, if it fits.
 fn write_pack(bytes: &[u8], nodes: &[u32], count: usize, size: usize, out: &mut [u8]) -> PackAnswer
     requires { ⌜ Weighs (now bytes) (now nodes) count size ⌝ }
     ensures { λ r. ⌜ PackOutcome form1 (now (bytes .entry)) (now (nodes .entry)) count (now (out .entry)) r (now (out .exit)) ⌝ }
 {
-    let body = size + 2;
-    if 65535 < body {
+    let body = size + COUNT;
+    if LONGEST_BODY < body {
         return PackAnswer::Refused(TOO_LONG);
     }
-    if out.len() < body + 3 {
+    if out.len() < body + BODY_AT {
         return PackAnswer::Refused(NO_ROOM);
     }
-    put_front(out, 0, 1, body, count);
-    put_nodes(bytes, nodes, count, out, 5);
-    PackAnswer::Packed(body + 3)
+    put_front(out, 0, FORM_1, body, count);
+    put_nodes(bytes, nodes, count, out, FRONT);
+    PackAnswer::Packed(body + BODY_AT)
 }
 
-// Form 1.
+// The pack, in form 1, of the nodes that the numbers name: four each, with the spelling as a part of the bytes.
 pub fn pack_nodes(bytes: &[u8], nodes: &[u32], count: usize, out: &mut [u8]) -> PackAnswer
     ensures { λ r. ⌜ PackOutcome form1 (now (bytes .entry)) (now (nodes .entry)) count (now (out .entry)) r (now (out .exit)) ⌝ }
 {
-    if 1023 < count {
+    if MOST_NODES < count {
         return PackAnswer::Refused(NO_PACK);
     }
-    if nodes.len() / 4 < count {
+    if nodes.len() / NUMBERS < count {
         return PackAnswer::Refused(NO_PACK);
     }
     match weigh(bytes, nodes, count) {

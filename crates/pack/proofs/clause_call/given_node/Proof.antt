@@ -9,7 +9,8 @@ use mir.Val.{Fits}
 use lib.ListN.{length, getD}
 use Rattle.pack.specs.Node.{most}
 use Rattle.pack.specs.ClauseCall.{lastOf}
-use Rattle.pack.specs.Numbering.{lastAt, Half, NodeAt, GivenNode}
+use Rattle.pack.specs.Numbering.{lastAt, NodeAt, GivenNode}
+use Rattle.pack.specs.Passes.{mostHalf, Widened}
 use Rattle.pack.specs.declared.writing.Given.{Given}
 use Rattle.pack.proofs.Clauses.{last-near}
 use Rattle.pack.proofs.clause_call.given_node.Statement.{statement}
@@ -19,14 +20,14 @@ module _ (ms : List ℕ) (at : ℕ) (starts ends : List ℕ) (h : NodeAt ms at s
   both-in : at + 1 < length ms
   both-in = omega (arith, h .both)
 
-  module _ (i : ℕ) (a : Half (getD ms at 0) i) where
+  module _ (i : ℕ) (a : Widened mostHalf (getD ms at 0) i) where
     token-small : i ≤ 65535
     token-small = a .below
 
     start-in : i < length starts
     start-in = omega (arith, h .first, a .same)
 
-    module _ (p : ℕ) (b : Half (getD ms (at + 1) 0) p) (l : ℕ) (e : l ≡ lastOf (p / 1024) i) where
+    module _ (p : ℕ) (b : Widened mostHalf (getD ms (at + 1) 0) p) (l : ℕ) (e : l ≡ lastOf (p / 1024) i) where
       last-is : l ≡ lastAt (getD ms (at + 1) 0) (getD ms at 0)
       last-is = e ∙ ap (λ (n : ℕ). lastOf (n / 1024) i) (b .same) ∙ ap (lastOf (getD ms (at + 1) 0 / 1024)) (a .same)
 
@@ -36,7 +37,7 @@ module _ (ms : List ℕ) (at : ℕ) (starts ends : List ℕ) (h : NodeAt ms at s
       last-fits : Fits w64 (l * 2)
       last-fits = record { fits = omega (arith, e, last-near (p / 1024) i, a .below) }
 
-      module _ (st en : ℕ) (x : Half (getD starts i 0) st) (y : Half (getD ends l 0) en) where
+      module _ (st en : ℕ) (x : Widened mostHalf (getD starts i 0) st) (y : Widened mostHalf (getD ends l 0) en) where
         start-is : st ≡ getD starts (getD ms at 0) 0
         start-is = x .same ∙ ap (λ (n : ℕ). getD starts n 0) (a .same)
 
@@ -62,47 +63,47 @@ module _ (ms : List ℕ) (at : ℕ) (starts ends : List ℕ) (h : NodeAt ms at s
 ruleset ways = (both-in, token-small, start-in, last-in, last-fits, in-order, given, needs)
 
 -- answers
-mul-wide : tie.Need-mul-wide
-mul-wide c = search ways
+mul-of-half : tie.Need-mul-of-half
+mul-of-half c = search ways
 
-shared-slice-read-wide : tie.Need-shared-slice-read-wide
-shared-slice-read-wide c = search ways
+shared-slice-read-of-half : tie.Need-shared-slice-read-of-half
+shared-slice-read-of-half c = search ways
 
-wide-requires : tie.Need-wide-requires
-wide-requires c κs = search ways
+of-half-requires : tie.Need-of-half-requires
+of-half-requires c κs = search ways
 
-add-wide : tie.Need-add-wide
-add-wide c = search ways
+add-of-half : tie.Need-add-of-half
+add-of-half c = search ways
 
-mul-wide-2 : tie.Need-mul-wide-2
-mul-wide-2 c = search ways
+mul-of-half-2 : tie.Need-mul-of-half-2
+mul-of-half-2 c = search ways
 
-shared-slice-read-wide-2 : tie.Need-shared-slice-read-wide-2
-shared-slice-read-wide-2 c = search ways
+shared-slice-read-of-half-2 : tie.Need-shared-slice-read-of-half-2
+shared-slice-read-of-half-2 c = search ways
 
-wide-requires-2 : tie.Need-wide-requires-2
-wide-requires-2 c κs = search ways
+of-half-requires-2 : tie.Need-of-half-requires-2
+of-half-requires-2 c κs = search ways
 
 last-of-requires : tie.Need-last-of-requires
 last-of-requires c κs = search ways
 
-mul-wide-3 : tie.Need-mul-wide-3
-mul-wide-3 c = search ways
+mul-of-half-3 : tie.Need-mul-of-half-3
+mul-of-half-3 c = search ways
 
-shared-slice-read-wide-3 : tie.Need-shared-slice-read-wide-3
-shared-slice-read-wide-3 c = search ways
+shared-slice-read-of-half-3 : tie.Need-shared-slice-read-of-half-3
+shared-slice-read-of-half-3 c = search ways
 
-wide-requires-3 : tie.Need-wide-requires-3
-wide-requires-3 c κs = search ways
+of-half-requires-3 : tie.Need-of-half-requires-3
+of-half-requires-3 c κs = search ways
 
-mul-wide-4 : tie.Need-mul-wide-4
-mul-wide-4 c = search ways
+mul-of-half-4 : tie.Need-mul-of-half-4
+mul-of-half-4 c = search ways
 
-shared-slice-read-wide-4 : tie.Need-shared-slice-read-wide-4
-shared-slice-read-wide-4 c = search ways
+shared-slice-read-of-half-4 : tie.Need-shared-slice-read-of-half-4
+shared-slice-read-of-half-4 c = search ways
 
-wide-requires-4 : tie.Need-wide-requires-4
-wide-requires-4 c κs = search ways
+of-half-requires-4 : tie.Need-of-half-requires-4
+of-half-requires-4 c κs = search ways
 
 sub-t18 : tie.Need-sub-t18
 sub-t18 c = search ways
@@ -114,19 +115,19 @@ pub given-node-spec : {M : Type 1} → statement M
 given-node-spec =
     tie.close
     (tie.spec
-    mul-wide
-    shared-slice-read-wide
-    wide-requires
-    add-wide
-    mul-wide-2
-    shared-slice-read-wide-2
-    wide-requires-2
+    mul-of-half
+    shared-slice-read-of-half
+    of-half-requires
+    add-of-half
+    mul-of-half-2
+    shared-slice-read-of-half-2
+    of-half-requires-2
     last-of-requires
-    mul-wide-3
-    shared-slice-read-wide-3
-    wide-requires-3
-    mul-wide-4
-    shared-slice-read-wide-4
-    wide-requires-4
+    mul-of-half-3
+    shared-slice-read-of-half-3
+    of-half-requires-3
+    mul-of-half-4
+    shared-slice-read-of-half-4
+    of-half-requires-4
     sub-t18
     returns)

@@ -39,8 +39,8 @@ module _ (d : List ℕ) (place : ℕ) where
 ruleset ways = (first-in, second-in, third-in, fourth-in, kept, put, needs)
 
 -- answers
-narrow-requires : tie.Need-narrow-requires
-narrow-requires c κs = search ways
+to-number-requires : tie.Need-to-number-requires
+to-number-requires c κs = search ways
 
 mul-numbers : tie.Need-mul-numbers
 mul-numbers c = search ways
@@ -48,8 +48,8 @@ mul-numbers c = search ways
 slice-write-numbers : tie.Need-slice-write-numbers
 slice-write-numbers c = search ways
 
-narrow-requires-2 : tie.Need-narrow-requires-2
-narrow-requires-2 c κs = search ways
+to-number-requires-2 : tie.Need-to-number-requires-2
+to-number-requires-2 c κs = search ways
 
 add-numbers : tie.Need-add-numbers
 add-numbers c = search ways
@@ -60,8 +60,8 @@ mul-numbers-2 c = search ways
 slice-write-numbers-2 : tie.Need-slice-write-numbers-2
 slice-write-numbers-2 c = search ways
 
-narrow-requires-3 : tie.Need-narrow-requires-3
-narrow-requires-3 c κs = search ways
+to-number-requires-3 : tie.Need-to-number-requires-3
+to-number-requires-3 c κs = search ways
 
 add-numbers-2 : tie.Need-add-numbers-2
 add-numbers-2 c = search ways
@@ -72,8 +72,8 @@ mul-numbers-3 c = search ways
 slice-write-numbers-3 : tie.Need-slice-write-numbers-3
 slice-write-numbers-3 c = search ways
 
-narrow-requires-4 : tie.Need-narrow-requires-4
-narrow-requires-4 c κs = search ways
+to-number-requires-4 : tie.Need-to-number-requires-4
+to-number-requires-4 c κs = search ways
 
 add-numbers-3 : tie.Need-add-numbers-3
 add-numbers-3 c = search ways
@@ -94,18 +94,18 @@ pub put-given-spec : {M : Type 1} → statement M
 put-given-spec =
     tie.close
     (tie.spec
-    narrow-requires
+    to-number-requires
     mul-numbers
     slice-write-numbers
-    narrow-requires-2
+    to-number-requires-2
     add-numbers
     mul-numbers-2
     slice-write-numbers-2
-    narrow-requires-3
+    to-number-requires-3
     add-numbers-2
     mul-numbers-3
     slice-write-numbers-3
-    narrow-requires-4
+    to-number-requires-4
     add-numbers-3
     mul-numbers-4
     slice-write-numbers-4
