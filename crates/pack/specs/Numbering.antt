@@ -7,7 +7,7 @@ use lib.ListN.{length, getD}
 use Rattle.reader.specs.Listing.{Source}
 use Rattle.pack.specs.Node.{most}
 use Rattle.pack.specs.ClauseCall.{lastOf}
-use Rattle.pack.specs.declared.writing.Given.{Given}
+use Rattle.pack.specs.declared.nodes.Given.{Given}
 
 -- the last token of a node's spelling, by the node's second number
 abbrev pub lastAt : ℕ → ℕ → ℕ
@@ -29,13 +29,6 @@ pub record GivenNode (ms : List ℕ) (at : ℕ) (starts ends : List ℕ) (r : Gi
   pub arity-small : r .arity ≤ most
   pub start-small : r .start ≤ most
   pub size-small : r .size ≤ most
-
-pub record PutGiven (it : Given) (room place : ℕ) : Type 0 where
-  pub inside : place + 4 ≤ room
-  pub kind-small : it .kind ≤ most
-  pub arity-small : it .arity ≤ most
-  pub start-small : it .start ≤ most
-  pub size-small : it .size ≤ most
 
 -- the four numbers of each of n nodes of the tree
 unfoldable pub fours : List ℕ → List ℕ → ℕ → List ℕ → List ℕ

@@ -16,7 +16,7 @@ use Rattle.pack.specs.declared.answers.UnpackAnswer.{UnpackAnswer}
 use Rattle.pack.specs.declared.reading.Head.{Head}
 use Rattle.pack.specs.declared.reading.Counted.{Counted}
 use Rattle.pack.specs.declared.reading.Counted.the-variants.{Nodes, NoNodes}
-use Rattle.pack.specs.declared.writing.Given.{Given}
+use Rattle.pack.specs.declared.nodes.Given.{Given}
 use Rattle.pack.specs.declared.writing.Weighed.{Weighed}
 use Rattle.pack.specs.declared.writing.Weighed.the-variants.{Bytes, NoTree}
 
@@ -36,6 +36,17 @@ mostNumber = 4294967295
 pub record Widened (bound x r : ℕ) : Type 0 where
   pub same : r ≡ x
   pub below : r ≤ bound
+
+-- a node's four numbers
+abbrev pub four : Given → List ℕ
+four it = it .kind ∷ it .arity ∷ it .start ∷ it .size ∷ []
+
+pub record PutGiven (it : Given) (room place : ℕ) : Type 0 where
+  pub inside : place + 4 ≤ room
+  pub kind-small : it .kind ≤ mostNumber
+  pub arity-small : it .arity ≤ mostNumber
+  pub start-small : it .start ≤ mostNumber
+  pub size-small : it .size ≤ mostNumber
 
 -- ---- reading
 

@@ -4,23 +4,22 @@ use crate::answers::PackAnswer;
 use crate::format::NUMBERS;
 use crate::kinds::KIND_UNIT;
 use crate::kinds::NEGATIVE;
+use crate::nodes::Given;
+use crate::nodes::put_given;
 use crate::widths::of_half;
-use crate::widths::to_number;
-use crate::writing::Given;
 use crate::writing::pack_nodes;
 use lexer::Cursor;
 use reader::ClauseAnswer;
 use reader::read_clause;
 use reader::span_tokens;
 ghost use mathlib.Core.Path.{_≡_};
-ghost use mathlib.Core.List.{[], _∷_};
 ghost use Prim.Native.Nat.{_≤_};
 ghost use lib.ListN.{length};
 ghost use lib.Seq.{sets};
 ghost use Rattle.reader.specs.LineCall.{ReadTree};
 ghost use Rattle.pack.specs.ClauseCall.{lastOf, ClausePack};
 ghost use Rattle.pack.specs.Image.{form1};
-ghost use Rattle.pack.specs.Numbering.{NodeAt, GivenNode, PutGiven, fours, Numbering};
+ghost use Rattle.pack.specs.Numbering.{NodeAt, GivenNode, fours, Numbering};
 
 // The last token of a node's spelling: a negative number runs on to the number.
 fn last_of(kind: usize, token: usize) -> usize
@@ -48,16 +47,6 @@ fn given_node(tree: &[u16], at: usize, starts: &[u16], ends: &[u16]) -> Given
         start,
         size: of_half(ends[last]) - start,
     }
-}
-
-fn put_given(it: Given, numbers: &mut [u32], place: usize)
-    requires { ⌜ PutGiven it (length (now numbers)) place ⌝ }
-    ensures { λ r. ⌜ now (numbers .exit) ≡ sets (now (numbers .entry)) place (it .kind ∷ it .arity ∷ it .start ∷ it .size ∷ []) ⌝ }
-{
-    numbers[place] = to_number(it.kind);
-    numbers[place + 1] = to_number(it.arity);
-    numbers[place + 2] = to_number(it.start);
-    numbers[place + 3] = to_number(it.size);
 }
 
 // The four numbers of each node.

@@ -3,6 +3,7 @@ mod answers;
 mod clause_call;
 mod format;
 mod kinds;
+mod nodes;
 mod reading;
 mod widths;
 mod writing;

@@ -10,8 +10,9 @@ use crate::format::LENGTH_AT;
 use crate::format::MOST_NODES;
 use crate::format::NUMBERS;
 use crate::kinds::can_have;
+use crate::nodes::Given;
+use crate::nodes::put_given;
 use crate::widths::of_byte;
-use crate::widths::to_number;
 ghost use mathlib.Core.Path.{_≡_};
 ghost use lib.ListN.{drop};
 ghost use lib.Seq.{sets};
@@ -121,10 +122,13 @@ fn put_numbers(s: &[u8], from: usize, count: usize, nodes: &mut [u32])
     let mut place: usize = 0;
     while 0 < left {
         let head = head_at(s, at);
-        nodes[place] = to_number(head.kind);
-        nodes[place + 1] = to_number(head.arity);
-        nodes[place + 2] = to_number(at + FRONT);
-        nodes[place + 3] = to_number(head.size);
+        let it = Given {
+            kind: head.kind,
+            arity: head.arity,
+            start: at + FRONT,
+            size: head.size,
+        };
+        put_given(it, nodes, place);
         at = at + FRONT + head.size;
         place += NUMBERS;
         left -= 1;

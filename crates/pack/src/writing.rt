@@ -13,7 +13,8 @@ use crate::format::LONGEST_SPELLING;
 use crate::format::MOST_NODES;
 use crate::format::NUMBERS;
 use crate::kinds::can_have;
-use crate::widths::of_number;
+use crate::nodes::Given;
+use crate::nodes::given_at;
 use crate::widths::to_byte;
 ghost use mathlib.Core.Path.{_≡_};
 ghost use mathlib.Core.List.{_∷_, _++_};
@@ -22,33 +23,12 @@ ghost use lib.Seq.{sets};
 ghost use Rattle.pack.specs.Node.{aNode};
 ghost use Rattle.pack.specs.Image.{two, form1, nodeBytes};
 ghost use Rattle.pack.specs.Calls.{PackOutcome};
-ghost use Rattle.pack.specs.Passes.{Inside, GivenAt, weighed, Weighing, PutWord, PutFront, PutPart, PutNode, laid, PutNodes, Weighs};
-
-// A node as the caller gives it.
-pub struct Given {
-    pub kind: usize,
-    pub arity: usize,
-    pub start: usize,
-    pub size: usize,
-}
+ghost use Rattle.pack.specs.Passes.{weighed, Weighing, PutWord, PutFront, PutPart, PutNode, laid, PutNodes, Weighs};
 
 // How many bytes the nodes take in an image, or they are no tree that unpacking would accept.
 pub enum Weighed {
     Bytes(usize),
     NoTree,
-}
-
-// The node whose numbers start at `place`.
-fn given_at(nodes: &[u32], place: usize) -> Given
-    requires { ⌜ Inside (now nodes) place 4 ⌝ }
-    ensures { λ r. ⌜ GivenAt (now (nodes .entry)) place r ⌝ }
-{
-    Given {
-        kind: of_number(nodes[place]),
-        arity: of_number(nodes[place + 1]),
-        start: of_number(nodes[place + 2]),
-        size: of_number(nodes[place + 3]),
-    }
 }
 
 // One pass over the nodes: a tree that stands takes as many before it as its arity says, and one is left at the end.

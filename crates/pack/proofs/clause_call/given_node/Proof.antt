@@ -11,7 +11,7 @@ use Rattle.pack.specs.Node.{most}
 use Rattle.pack.specs.ClauseCall.{lastOf}
 use Rattle.pack.specs.Numbering.{lastAt, NodeAt, GivenNode}
 use Rattle.pack.specs.Passes.{mostHalf, Widened}
-use Rattle.pack.specs.declared.writing.Given.{Given}
+use Rattle.pack.specs.declared.nodes.Given.{Given}
 use Rattle.pack.proofs.Clauses.{last-near}
 use Rattle.pack.proofs.clause_call.given_node.Statement.{statement}
 use Rattle.pack.proofs.clause_call.given_node.Tie as tie

@@ -10,8 +10,9 @@ use lib.ListN.{length, getD, drop, length-drop}
 use lib.Seq.{sets, length-sets}
 use Rattle.reader.specs.Listing.{Source}
 use Rattle.pack.specs.ClauseCall.{lastOf}
-use Rattle.pack.specs.Numbering.{lastAt, NodeAt, GivenNode, PutGiven, fours, Lying, nothing, also, Numbering}
-use Rattle.pack.specs.declared.writing.Given.{Given}
+use Rattle.pack.specs.Numbering.{lastAt, NodeAt, GivenNode, fours, Lying, nothing, also, Numbering}
+use Rattle.pack.specs.Passes.{four, PutGiven}
+use Rattle.pack.specs.declared.nodes.Given.{Given}
 use Rattle.pack.proofs.Basics.{drop-two, sets-append}
 use Rattle.pack.proofs.Clauses.{Here, here, fours-node, fours-end}
 use Rattle.pack.proofs.clause_call.number_nodes.Statement.{statement}
@@ -64,15 +65,15 @@ module _ (ms : List ℕ) (count : ℕ) (starts ends d₀ d : List ℕ) (left at 
       put-asked =
           record {
             inside = omega (arith, v .room);
-            kind-small = g .kind-small;
-            arity-small = g .arity-small;
-            start-small = g .start-small;
-            size-small = g .size-small;
+            kind-small = omega (arith, g .kind-small);
+            arity-small = omega (arith, g .arity-small);
+            start-small = omega (arith, g .start-small);
+            size-small = omega (arith, g .size-small);
           }
 
-      module _ (d′ : List ℕ) (e : d′ ≡ sets d place (r .kind ∷ r .arity ∷ r .start ∷ r .size ∷ [])) where
+      module _ (d′ : List ℕ) (e : d′ ≡ sets d place (four r)) where
         next-length : length d′ ≡ length d
-        next-length = ap length e ∙ length-sets d place (r .kind ∷ r .arity ∷ r .start ∷ r .size ∷ [])
+        next-length = ap length e ∙ length-sets d place (four r)
 
         again : Inv ms count starts ends d₀ d′ (left - 1) (at + 2) (place + 4)
         again =
@@ -81,7 +82,7 @@ module _ (ms : List ℕ) (count : ℕ) (starts ends d₀ d : List ℕ) (left at 
             fours-node starts ends ms at left h (it .both) ∙ cc (g .kind-same, g .arity-same, g .start-same, g .size-same) in
             record {
               same =
-                  v .same ∙ ap (sets d place) f ∙ sets-append d place (place + 4) (r .kind ∷ r .arity ∷ r .start ∷ r .size ∷ []) x (omega arith)
+                  v .same ∙ ap (sets d place) f ∙ sets-append d place (place + 4) (four r) x (omega arith)
                   ∙ ap (λ (l : List ℕ). sets l (place + 4) x) (sym e);
               text = v .text;
               tokens = v .tokens;

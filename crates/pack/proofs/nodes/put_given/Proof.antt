@@ -1,4 +1,4 @@
--- `pack::clause_call::put_given` meets its contract. Assumes nothing.
+-- `pack::nodes::put_given` meets its contract. Assumes nothing.
 use Prim.Native.Nat.{ℕ, suc, _+_, _<_, _≤_}
 use mathlib.Core.Path.{_≡_}
 use mathlib.Core.List.{List, [], _∷_}
@@ -6,10 +6,10 @@ use native.Mathlib.Omega.{arith}
 use borrow.Author.Needs.{needs}
 use lib.ListN.{length, set, length-set}
 use lib.Seq.{sets}
-use Rattle.pack.specs.Numbering.{PutGiven}
-use Rattle.pack.specs.declared.writing.Given.{Given}
-use Rattle.pack.proofs.clause_call.put_given.Statement.{statement}
-use Rattle.pack.proofs.clause_call.put_given.Tie as tie
+use Rattle.pack.specs.Passes.{four, PutGiven}
+use Rattle.pack.specs.declared.nodes.Given.{Given}
+use Rattle.pack.proofs.nodes.put_given.Statement.{statement}
+use Rattle.pack.proofs.nodes.put_given.Tie as tie
 
 module _ (it : Given) (d : List ℕ) (place : ℕ) (h : PutGiven it (length d) place) where
   first-in : place < length d
@@ -29,7 +29,7 @@ module _ (d : List ℕ) (place : ℕ) where
   kept k a p l = simp length-set
 
   put : (it : Given) (k a p l : ℕ) → k ≡ it .kind → a ≡ it .arity → p ≡ it .start → l ≡ it .size
-      → set (set (set (set d place k) (place + 1) a) (place + 2) p) (place + 3) l ≡ sets d place (it .kind ∷ it .arity ∷ it .start ∷ it .size ∷ [])
+      → set (set (set (set d place k) (place + 1) a) (place + 2) p) (place + 3) l ≡ sets d place (four it)
   put it k a p l ek ea ep el =
       let e1 : suc place ≡ place + 1 = omega arith in
       let e2 : suc (suc place) ≡ place + 2 = omega arith in
