@@ -1,0 +1,211 @@
+"""Document 02's packs (request 2), read plainly: a second packer and unpacker beside the proved ones, with which it shares nothing. It was
+written from document 02 and its settled points. A node is its kind, its arity and the bytes of its spelling; trees are built, not counted.
+`lines` is what the probe must answer to `p`, `u` and `k`."""
+import re
+
+import grammar
+from probe import FILL, MOST_LENGTH, TREE_FILL, moved, refused_line
+
+VERSION = 1
+MOST_NODES = 1023
+MOST_BODY = 65535
+LONGEST_TEXT = 65535
+NOT_VALID, NO_ROOM, TOO_LONG, NO_PACK = 8, 9, 13, 14
+# the arities that a kind can have, from and to
+ANY = 65535
+ARITIES = {
+    grammar.PLAIN: (0, 0),
+    grammar.NEGATIVE: (0, 0),
+    grammar.CALL: (1, ANY),
+    grammar.PREFIX: (1, 1),
+    grammar.INFIX: (2, 2),
+    grammar.LIST: (1, ANY),
+    grammar.TAILED: (2, ANY),
+    grammar.CURLY: (1, 1),
+    grammar.EMPTY_LIST: (0, 0),
+    grammar.EMPTY_CURLY: (0, 0),
+}
+# grammar.py passes over these in comments, where they are refusal 5
+FOREIGN = re.compile(rb"[^ -~\t\r\n]")
+# what the probe takes: the largest rooms, and the nodes of `k`
+MOST_ROOM = {"p": 70000, "k": 70000, "u": 1024}
+MOST_GIVEN = 1100
+
+
+class Refused(Exception):
+    def __init__(self, number, at=0):
+        self.number, self.at = number, at
+
+
+class Malformed(Exception):
+    pass
+
+
+def two(number):
+    return number.to_bytes(2, "big")
+
+
+def number_at(data, at):
+    return int.from_bytes(data[at:at + 2], "big")
+
+
+def fits(kind, arity):
+    least, most = ARITIES.get(kind, (1, 0))
+    return least <= arity <= most
+
+
+def one_tree(nodes):
+    """Builds the trees: a node takes the last so many trees as its children."""
+    trees = []
+    for node in nodes:
+        if node[1] > len(trees):
+            return False
+        children = len(trees) - node[1]
+        trees[children:] = [(node, trees[children:])]
+    return len(trees) == 1
+
+
+def acceptable(nodes):
+    return len(nodes) <= MOST_NODES and all(fits(kind, arity) for kind, arity, _ in nodes) and one_tree(nodes)
+
+
+def laid(nodes):
+    """All that follows the length."""
+    return two(len(nodes)) + b"".join(bytes([kind]) + two(arity) + two(len(spelling)) + spelling for kind, arity, spelling in nodes)
+
+
+def image_of(body):
+    return bytes([VERSION]) + two(len(body)) + body
+
+
+def packed(nodes):
+    if not acceptable(nodes):
+        raise Refused(NO_PACK)
+    body = laid(nodes)
+    if len(body) > MOST_BODY:
+        raise Refused(TOO_LONG)
+    return image_of(body)
+
+
+def packed_within(nodes, room):
+    image = packed(nodes)
+    if len(image) > room:
+        raise Refused(NO_ROOM)
+    return image
+
+
+def unpacked(image):
+    """Kind, arity, start and length of the spelling, of each node."""
+    if len(image) < 5 or image[0] != VERSION or number_at(image, 1) != len(image) - 3:
+        raise Refused(NO_PACK)
+    numbers, at = [], 5
+    for _ in range(number_at(image, 3)):
+        if at + 5 > len(image):
+            raise Refused(NO_PACK)
+        kind, arity, length = image[at], number_at(image, at + 1), number_at(image, at + 3)
+        numbers.append((kind, arity, at + 5, length))
+        at += 5 + length
+    if at != len(image) or not acceptable(parts(image, numbers)):
+        raise Refused(NO_PACK)
+    return numbers
+
+
+def parts(data, numbers):
+    """The nodes whose spellings are these parts."""
+    return [(kind, arity, data[start:start + length]) for kind, arity, start, length in numbers]
+
+
+def unpacked_within(image, room):
+    numbers = unpacked(image)
+    if len(numbers) > room:
+        raise Refused(NO_ROOM)
+    return numbers
+
+
+def given_nodes(body):
+    """The numbers of the nodes in a body of `k`, and the bytes that their spellings are parts of."""
+    count = number_at(body, 0)
+    if len(body) < 2 or count > MOST_GIVEN or len(body) < 2 + 8 * count:
+        raise Malformed
+    numbers = [tuple(number_at(body, at + field) for field in (0, 2, 4, 6)) for at in range(2, 2 + 8 * count, 8)]
+    return numbers, body[2 + 8 * count:]
+
+
+def body_of(numbers, data):
+    """A body of `k`."""
+    return two(len(numbers)) + b"".join(two(number) for node in numbers for number in node) + data
+
+
+def named(numbers, data):
+    """The nodes that these numbers name, if each spelling is a part of these bytes."""
+    if any(start + length > len(data) for _, _, start, length in numbers):
+        raise Refused(NO_PACK)
+    return parts(data, numbers)
+
+
+def spelt(text, spans, tree):
+    """The nodes of a tree, spelt as its tokens stand in the text; a negative number runs on to the number's end."""
+    nodes = []
+    for index, kind, arity in tree:
+        last = index + 1 if kind == grammar.NEGATIVE else index
+        nodes.append((kind, arity, text[spans[index][0]:spans[last][1]]))
+    return nodes
+
+
+def valid(text, given):
+    return len(text) <= LONGEST_TEXT and given[0] <= len(text) and max(given[1:]) <= given[0]
+
+
+def clause_of(text, given):
+    """The clause at the cursor by grammar.py: its tokens' spans, its tree, the offset behind its mark."""
+    if FOREIGN.search(text):
+        raise grammar.NotMine
+    source = text.decode("latin-1")
+    kind, what, offset = grammar.read_clause(source, given[0], 2 * grammar.MOST_TOKENS)
+    if kind == "refused":
+        raise Refused(what, offset)
+    return [(token.start, token.end) for token in grammar.tokens_of(source, given[0])], what, offset
+
+
+def image_line(image, room):
+    return "image " + ((image + bytes([FILL]) * (room - len(image))).hex() or "-")
+
+
+def slice_line(numbers, room):
+    written = [number for node in numbers for number in node]
+    return "slice " + (" ".join(map(str, written + [TREE_FILL] * (4 * room - len(written)))) or "-")
+
+
+def clause_lines(given, room, text, clause):
+    """`p`, with the reader that says what the clause is."""
+    if not valid(text, given):
+        raise Refused(NOT_VALID)
+    spans, tree, offset = clause(text, given)
+    image = packed_within(spelt(text, spans, tree), room)
+    return ["pack %d %d %d %d" % (len(image), *moved(text, given, offset)), image_line(image, room)]
+
+
+def node_lines(room, body):
+    """`k`"""
+    image = packed_within(named(*given_nodes(body)), room)
+    return [f"pack {len(image)}", image_line(image, room)]
+
+
+def unpack_lines(room, image):
+    """`u`"""
+    numbers = unpacked_within(image, room)
+    return [f"nodes {len(numbers)}", slice_line(numbers, room)]
+
+
+def lines(call, given, room, body, clause=clause_of):
+    """The probe's answer. Where grammar.py does not know a token of the clause, it raises NotMine."""
+    try:
+        if room > MOST_ROOM[call] or len(body) > MOST_LENGTH:
+            raise Malformed
+        if call == "p":
+            return clause_lines(given, room, body, clause)
+        return (unpack_lines if call == "u" else node_lines)(room, body)
+    except Malformed:
+        return ["malformed"]
+    except Refused as refusal:
+        return [refused_line(refusal.number, refusal.at, given), (slice_line if call == "u" else image_line)(b"", room)]
