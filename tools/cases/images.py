@@ -31,16 +31,20 @@ def unjudged(nodes):
     return packs.image_of(packs.laid(nodes))
 
 
-def room_of(call, cursor, body, clause=packs.clause_of):
+def room_of(call, cursor, body, reading=None):
     """The room that the answer takes; a little where it takes none."""
-    most = packs.MOST_ROOM[call]
-    word, length, *_ = packs.lines(call, cursor, most, body, clause)[0].split()
-    return int(length) if word != "refused" else 4
+    try:
+        if call == "u":
+            return len(packs.unpacked(body))
+        nodes = packs.clause_nodes(cursor, body, reading)[0] if call == "p" else packs.named(*packs.given_nodes(body))
+        return len(packs.packed(nodes))
+    except packs.Refused:
+        return 4
 
 
-def rooms(call, cursor, body, clause=packs.clause_of):
+def rooms(call, cursor, body, reading=None):
     """None, one short, exact and one more."""
-    exact = room_of(call, cursor, body, clause)
+    exact = room_of(call, cursor, body, reading)
     return 0, exact - 1, exact, exact + 1
 
 
@@ -71,7 +75,7 @@ def damaged(image):
 
 
 def damaged_cases():
-    image = packs.packed(packs.spelt(b"f(-1,[]).", *packs.clause_of(b"f(-1,[]).", START)[:2]))
+    image = packs.packed([(1, 0, b"-1"), (8, 0, b"["), (2, 2, b"f")])
     yield from (("u", START, 3, other) for other in damaged(image))
 
 
@@ -81,7 +85,7 @@ def wide(count, child, root):
 
 
 def large_cases():
-    for text in (b"- " * 1022 + b"a.", b"f(" + b"a," * 510 + b"a).", b"[" + b"a," * 510 + b"-1]."):
+    for text in (b"- " * 1022 + b"a.", b"f(" + b"a," * 509 + b"a).", b"[" + b"a," * 509 + b"-1]."):
         yield from (("p", START, room, text) for room in rooms("p", START, text)[1:])
     image = unjudged(wide(1023, b"", b"r"))
     yield from (("u", START, room, image) for room in (1022, 1023))

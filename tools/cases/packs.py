@@ -156,15 +156,13 @@ def valid(text, given):
     return len(text) <= LONGEST_TEXT and given[0] <= len(text) and max(given[1:]) <= given[0]
 
 
-def clause_of(text, given):
-    """The clause at the cursor by grammar.py: its tokens' spans, its tree, the offset behind its mark."""
+def reading_of(text, given):
+    """The clause at a valid cursor as grammar.py reads it, ("clause", nodes, new offset) or ("refused", number, offset), and its tokens' spans."""
     if FOREIGN.search(text):
         raise grammar.NotMine
     source = text.decode("latin-1")
-    kind, what, offset = grammar.read_clause(source, given[0], 2 * grammar.MOST_TOKENS)
-    if kind == "refused":
-        raise Refused(what, offset)
-    return [(token.start, token.end) for token in grammar.tokens_of(source, given[0])], what, offset
+    answer = grammar.read_clause(source, given[0], 2 * grammar.MOST_TOKENS)
+    return *answer, [(token.start, token.end) for token in grammar.tokens_of(source, given[0])]
 
 
 def image_line(image, room):
@@ -176,12 +174,20 @@ def slice_line(numbers, room):
     return "slice " + (" ".join(map(str, written + [TREE_FILL] * (4 * room - len(written)))) or "-")
 
 
-def clause_lines(given, room, text, clause):
-    """`p`, with the reader that says what the clause is."""
+def clause_nodes(given, text, reading):
+    """The nodes of the clause at the cursor, and the offset behind its mark."""
     if not valid(text, given):
         raise Refused(NOT_VALID)
-    spans, tree, offset = clause(text, given)
-    image = packed_within(spelt(text, spans, tree), room)
+    kind, what, offset, spans = reading or reading_of(text, given)
+    if kind == "refused":
+        raise Refused(what, offset)
+    return spelt(text, spans, what), offset
+
+
+def clause_lines(given, room, text, reading):
+    """`p`"""
+    nodes, offset = clause_nodes(given, text, reading)
+    image = packed_within(nodes, room)
     return ["pack %d %d %d %d" % (len(image), *moved(text, given, offset)), image_line(image, room)]
 
 
@@ -197,13 +203,13 @@ def unpack_lines(room, image):
     return [f"nodes {len(numbers)}", slice_line(numbers, room)]
 
 
-def lines(call, given, room, body, clause=clause_of):
-    """The probe's answer. Where grammar.py does not know a token of the clause, it raises NotMine."""
+def lines(call, given, room, body, reading=None):
+    """The probe's answer. Where no reading of the clause is given and grammar.py does not know a token of it, it raises NotMine."""
     try:
         if room > MOST_ROOM[call] or len(body) > MOST_LENGTH:
             raise Malformed
         if call == "p":
-            return clause_lines(given, room, body, clause)
+            return clause_lines(given, room, body, reading)
         return (unpack_lines if call == "u" else node_lines)(room, body)
     except Malformed:
         return ["malformed"]
