@@ -4,13 +4,14 @@ import packs
 from probe import MOST_LENGTH, START
 
 CLAUSES = ("  f(a, B, \"c\").", " [a, b|C] = {x} .", " a :- b, \\+ c.\n", " - 1 ^ -2 .", " '-'1 , ',' .", " [] , {} .", "\r\n'a\\\nb'(-0x1F).\r\n", " x y .")
-# nodes, the last of which is their parent, with spellings that show the order
+# with two that are none
 KINDS = range(12)
 ARITIES = range(4)
 
 
-def family(kind, arity, child=(0, 0, b"a")):
-    return [child] * arity + [(kind, arity, b"f")]
+def family(kind, arity):
+    """A node behind its children."""
+    return [(0, 0, b"a")] * arity + [(kind, arity, b"f")]
 
 
 def numbers_of(nodes):
@@ -101,7 +102,8 @@ def cases():
 
 
 def malformed():
-    """What is no case of these calls. Each ends the probe, so only the first is stored, behind all others; hold-packs asks them one by one."""
+    """What is no case: bodies of `k` that are too short or have too many nodes, rooms and texts over the largest. Each ends the probe, so only
+    the first is stored, behind all others; hold-packs asks them one by one."""
     whole = given(family(3, 1))
     return [
         ("k", START, 40, whole[:17]),
@@ -113,5 +115,7 @@ def malformed():
         ("k", START, 70001, whole),
         ("p", START, 70001, b"a."),
         ("u", START, 1025, unjudged(family(3, 1))),
+        ("c", START, 4097, b"a."),
+        ("x", START, 4097, b"a "),
         ("p", START, 11, b"a." + b" " * (MOST_LENGTH - 1)),
     ]
