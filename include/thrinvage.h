@@ -1,13 +1,13 @@
-/* The Prolog reader, for C: bytes in; tokens, or a clause's tree or line, out.
+/* The Prolog reader, for C: bytes in; tokens, or a clause's tree, line or image, out; and an image's nodes.
  *
- * Each function of the archive is proved, for every argument, to answer as the call of the library that its name says (crates/ffi_token, ffi_clause and
- * ffi); what that answer is stands in docs/CLAIMS.md. It allocates nothing, keeps nothing between two calls and writes only what it is lent, so several
- * threads may call at once.
+ * Each function of the archive is proved, for every argument, to answer as the call of the library that its name says (crates/ffi_token, ffi_clause,
+ * ffi_pack and ffi); what that answer is stands in docs/CLAIMS.md. It allocates nothing, keeps nothing between two calls and writes only what it is lent,
+ * so several threads may call at once.
  *
  * A text is of ASCII. Its lines end with byte 10, or with the bytes 13 and 10, as a file was saved; lines are counted by byte 10, and byte 13 is layout.
  *
  * What a caller owes is what C's types do not say: a pointer with a length points to that many elements (it may be null where the length is
- * 0), a pointer to a struct points to one, what the function writes overlaps nothing else that it is given, and nothing is changed meanwhile.
+ * 0), any other points to one, what the function writes overlaps nothing else that it is given, and nothing is changed meanwhile.
  *
  * A program that lists the clauses of standard input, and says whether the last one was cut off:
  *
@@ -38,16 +38,21 @@
 extern "C" {
 #endif
 
-/* The longest text, in bytes, and the most tokens of a clause, its end mark among them. */
+/* The longest text, in bytes; the most tokens of a clause, its end mark among them; the most nodes of a clause's tree, and of an image. */
 #define THRINVAGE_LONGEST_TEXT 65535
 #define THRINVAGE_MOST_TOKENS 1024
+#define THRINVAGE_MOST_NODES 1023
 
-/* Room that always serves: numbers for a clause's tree, and bytes for its line. A scratch of THRINVAGE_LONGEST_TEXT bytes always serves too. */
+/* Room that always serves: numbers for a clause's tree, bytes for its line and for an image, and numbers for an image's nodes. A scratch of
+ * THRINVAGE_LONGEST_TEXT bytes always serves too. */
 #define THRINVAGE_TREE_NUMBERS 2048
 #define THRINVAGE_LINE_BYTES 70650
+#define THRINVAGE_IMAGE_BYTES 65538
+#define THRINVAGE_NODE_NUMBERS 4092
 
-/* What a function returns: 0 where it read what it was asked for, else the number of the refusal. The offset that a refusal points at is
- * put in the struct's field `refused_at`, and nothing else is written: the struct's other fields stay, and so do a lent scratch, tree or line. */
+/* What a function returns: 0 where it read or packed what it was asked for, else the number of the refusal. The offset that a refusal points at is
+ * put in the struct's field `refused_at`, and nothing else is written: the struct's other fields stay, and so do a lent scratch, tree, line or image.
+ * A function that is lent no struct writes nothing when it refuses: each of its refusals is at 0. */
 enum thrinvage_refusal {
     THRINVAGE_READ = 0,
     THRINVAGE_END_OF_TEXT = 1,      /* a rule needs a character and the text has ended; at the text's length */
@@ -58,10 +63,12 @@ enum thrinvage_refusal {
     THRINVAGE_SET_ASIDE = 6,        /* `_` right after the leading digits, or 0'\ and a newline; at the token */
     THRINVAGE_OUT_OF_LIMIT = 7,     /* a number or an escape out of its limit (below), in a token otherwise whole; at the token */
     THRINVAGE_NOT_VALID = 8,        /* the text is longer than 65,535 bytes, or the cursor is not valid (below); at 0 */
-    THRINVAGE_NO_ROOM = 9,          /* the scratch, the tree or the line is too short; at the token, or at the clause's first */
+    THRINVAGE_NO_ROOM = 9,          /* the scratch, the tree or the line is too short; at the token, or at the clause's first; at 0 for an image or nodes */
     THRINVAGE_TOO_MANY_TOKENS = 10, /* 1,024 tokens, none an end mark; at the first */
     THRINVAGE_NO_READING = 11,      /* the grammar has no reading of the clause; at its first token */
-    THRINVAGE_NO_TEXT = 12          /* the token is no name, variable or string; at it */
+    THRINVAGE_NO_TEXT = 12,         /* the token is no name, variable or string; at it */
+    THRINVAGE_TOO_LONG = 13,        /* an image's body would pass 65,535 bytes; at 0 */
+    THRINVAGE_NO_PACK = 14          /* the bytes are no image, or the nodes are none that an image can have (below); at 0 */
 };
 
 /* The limits of refusal 7: an integer is at most 9,223,372,036,854,775,807; the code of an escape is 1 to 127; the digits of a float, read as one
@@ -102,7 +109,8 @@ enum thrinvage_part {
     THRINVAGE_SCRATCH = 1 /* they were decoded to the scratch, from part_start to part_end */
 };
 
-/* A node's kind: the second of its two numbers in a tree, divided by 1,024; the rest is the count of its children. */
+/* A node's kind: the second of its two numbers in a tree, divided by 1,024; the rest is the count of its children. Of an image's node it is the first of
+ * four numbers. */
 enum thrinvage_node {
     THRINVAGE_PLAIN = 0,       /* a token by itself: number, string, variable or name */
     THRINVAGE_NEGATIVE = 1,    /* a negative number; the index is its minus */
@@ -140,7 +148,7 @@ struct thrinvage_clause {
     uint64_t line;
     uint64_t column;
     uint64_t refused_at; /* the refusal's offset, after a refusal; else 0 */
-    uint64_t count;      /* of the tree's nodes, or of the line's bytes */
+    uint64_t count;      /* of the tree's nodes, or of the line's or the image's bytes */
 };
 
 /* The next token behind the cursor. */
@@ -166,9 +174,59 @@ uint32_t thrinvage_read_clause(const uint8_t *text, size_t length, size_t offset
 uint32_t thrinvage_list_clause(const uint8_t *text, size_t length, size_t offset, size_t line, size_t column, uint8_t *out, size_t room,
                                struct thrinvage_clause *clause);
 
+/* ---- A clause in a message
+ *
+ * An image is one clause's tree, spellings and all, in one piece: what unpacks it needs neither the text nor an operator table. It is of these bytes,
+ * numbers big-endian:
+ *
+ *   1 byte    the version, 1
+ *   2 bytes   the length of the body, which is all that follows: at most 65,535
+ *   2 bytes   the count of nodes: 1 to 1,023
+ *   and then, for each node, children left to right, then their parent, the root last:
+ *   1 byte    its kind (enum thrinvage_node)
+ *   2 bytes   its arity, the count of its children
+ *   2 bytes   the length of its spelling
+ *   the spelling
+ *
+ * So an image tells its own length, 3 bytes and the body, and images that stand one behind another can be parted. `a(-1).` is packed to these 18 bytes:
+ *
+ *   01  00 0f  00 02    01  00 00  00 02  2d 31    02  00 01  00 01  61
+ *
+ * A node's spelling is its token's bytes as they stand in the text, quotes and escapes too: nothing is decoded. That of a negative number runs from its
+ * minus to the number's end; that of a list, empty or not, is `[`, that of curly brackets `{`, and that of the infix comma `,`.
+ *
+ * The bytes are an image exactly if their lengths agree to the last byte, each kind is one of enum thrinvage_node with an arity that it can have, and the
+ * nodes form one tree. PLAIN, NEGATIVE, EMPTY_LIST and EMPTY_CURLY have arity 0, PREFIX and CURLY 1, INFIX 2, CALL and LIST 1 or more, LIST_TAIL 2 or
+ * more. One tree is this: go through the nodes and count the trees that have no parent yet. A node takes away as many as its arity says, and so many must
+ * be there; then it adds one, its own. At the end there is one.
+ *
+ * A spelling is not judged: it may be any bytes, or none. So what packing made of a clause always unpacks, and to its kinds, arities and spellings; but
+ * what a stranger made, or the link has damaged, can unpack too, and be no clause or another one. Who must know whether it is a clause writes it as a text
+ * and reads that; who must notice damage sends a check sum along.
+ *
+ * Refusals of packing and unpacking come in this order: 14, 13, 9. */
+
+/* The clause behind the cursor as an image, at the front of `out`, which has `room` bytes: the struct's `count` is the image's length. The refusals of
+ * thrinvage_read_clause but for 9 come first, with their offsets; then 13 and 9, at 0; 14 never. A clause that is too long for an image (13) is stepped
+ * over by thrinvage_read_clause. */
+uint32_t thrinvage_pack_clause(const uint8_t *text, size_t length, size_t offset, size_t line, size_t column, uint8_t *out, size_t room,
+                               struct thrinvage_clause *clause);
+
+/* `count` nodes as an image, at the front of `out`, which has `room` bytes: *packed is the image's length. A node is four numbers: kind, arity, and the
+ * start and the length of its spelling, which is a part of the lent `bytes`; the start counts from the first of them. `numbers` counts the numbers of
+ * `nodes`. Refusal 14 is for nodes that no image has, for a spelling that is no part of the bytes or is longer than 65,535, and for a count that is 0,
+ * over 1,023 or over a quarter of `numbers`. */
+uint32_t thrinvage_pack_nodes(const uint8_t *bytes, size_t length, const uint32_t *nodes, size_t numbers, size_t count, uint8_t *out, size_t room,
+                              uint64_t *packed);
+
+/* The nodes of an image, four numbers each as above, at the front of `nodes`; `room` counts numbers, and *count is the count of nodes. A spelling's start
+ * counts from the first byte of the image: hand these nodes to thrinvage_pack_nodes with the image as `bytes`, and the same image comes back.
+ * `length` is that of one image: a byte too many is refused by 14, as is one too few. examples/c/receive.c parts messages and prints what they hold. */
+uint32_t thrinvage_unpack(const uint8_t *image, size_t length, uint32_t *nodes, size_t room, uint64_t *count);
+
 /* Was the last clause cut off? `a. ` and `a. b :- c` both end in refusal 1 at the text's length. Behind the last end mark the first has layout alone, the
- * second has not. So where the clause or the line call is refused by 1, the text is whole exactly if this function returns 1 at the offset that the call
- * was made at, which the struct still has. Who reads by the token call asks besides that the last token was an end mark, or that there was none.
+ * second has not. So where the clause, the line or the pack call is refused by 1, the text is whole exactly if this function returns 1 at the offset that
+ * the call was made at, which the struct still has. Who reads by the token call asks besides that the last token was an end mark, or that there was none.
  * A text that was cut between two clauses, in a `%` comment, or behind a dot that then ends a clause (`X is 1.` of `X is 1.5. `) looks whole: only a last
  * clause that was agreed on, as `end_of_file.`, tells those.
  *
