@@ -63,7 +63,7 @@ enum thrinvage_refusal {
     THRINVAGE_SET_ASIDE = 6,        /* `_` right after the leading digits, or 0'\ and a newline; at the token */
     THRINVAGE_OUT_OF_LIMIT = 7,     /* a number or an escape out of its limit (below), in a token otherwise whole; at the token */
     THRINVAGE_NOT_VALID = 8,        /* the text is longer than 65,535 bytes, or the cursor is not valid (below); at 0 */
-    THRINVAGE_NO_ROOM = 9,          /* the scratch, the tree or the line is too short; at the token, or at the clause's first; at 0 for an image or nodes */
+    THRINVAGE_NO_ROOM = 9,          /* too short: the scratch, at the token; the tree or the line, at the clause's first; an image or its nodes, at 0 */
     THRINVAGE_TOO_MANY_TOKENS = 10, /* 1,024 tokens, none an end mark; at the first */
     THRINVAGE_NO_READING = 11,      /* the grammar has no reading of the clause; at its first token */
     THRINVAGE_NO_TEXT = 12,         /* the token is no name, variable or string; at it */
@@ -201,8 +201,8 @@ uint32_t thrinvage_list_clause(const uint8_t *text, size_t length, size_t offset
  * be there; then it adds one, its own. At the end there is one.
  *
  * A spelling is not judged: it may be any bytes, or none. So what packing made of a clause always unpacks, and to its kinds, arities and spellings; but
- * what a stranger made, or the link has damaged, can unpack too, and be no clause or another one. Who must know whether it is a clause writes it as a text
- * and reads that; who must notice damage sends a check sum along.
+ * what a stranger made, or the link has damaged, can unpack too, and be no clause or another one. Who must know whether it is a clause writes it as a
+ * text and reads that; who must notice damage sends a check sum along.
  *
  * Refusals of packing and unpacking come in this order: 14, 13, 9. */
 

@@ -77,25 +77,71 @@ pub enum Part {
     Scratch(Range<usize>),
 }
 
-/// What was counted, the nodes of a tree or the bytes of a line, and the cursor behind the clause.
+/// What was counted, the nodes of a tree or the bytes of a line or an image, and the cursor behind the clause.
 #[derive(Clone, Copy, Debug, PartialEq, Eq)]
 pub struct Counted {
     pub count: usize,
     pub next: Cursor,
 }
 
+/// The kind of a node.
+#[derive(Clone, Copy, Debug, PartialEq, Eq)]
+pub enum NodeKind {
+    Plain,
+    Negative,
+    Call,
+    Prefix,
+    Infix,
+    List,
+    ListTail,
+    Curly,
+    EmptyList,
+    EmptyCurly,
+}
+
+const NODE_KINDS: [NodeKind; 10] = [
+    NodeKind::Plain,
+    NodeKind::Negative,
+    NodeKind::Call,
+    NodeKind::Prefix,
+    NodeKind::Infix,
+    NodeKind::List,
+    NodeKind::ListTail,
+    NodeKind::Curly,
+    NodeKind::EmptyList,
+    NodeKind::EmptyCurly,
+];
+
+/// A node of an image: its spelling is a part of the image.
+#[derive(Clone, Copy, Debug, PartialEq, Eq)]
+pub struct Node<'i> {
+    pub kind: NodeKind,
+    pub arity: usize,
+    pub spelling: &'i [u8],
+}
+
 /// The longest text, in bytes. A scratch of that length always serves.
 pub const LONGEST_TEXT: usize = 65535;
 /// The most tokens of a clause, its end mark among them.
 pub const MOST_TOKENS: usize = 1024;
-/// Room that always serves for a clause's tree, and for its line.
+/// The most nodes of a clause's tree, and of an image.
+pub const MOST_NODES: usize = 1023;
+/// Room that always serves for a clause's tree, for its line, for an image, and for an image's nodes.
 pub const TREE_NUMBERS: usize = 2048;
 pub const LINE_BYTES: usize = 70650;
+pub const IMAGE_BYTES: usize = 65538;
+pub const NODE_NUMBERS: usize = 4092;
 
 /// The refusal where the text has ended.
 pub const END_OF_TEXT: u32 = 1;
+/// The refusal where the slice to be written has too little room.
+pub const NO_ROOM: u32 = 9;
 /// The refusal of the text call where the token is no name, variable or string.
 pub const NO_TEXT: u32 = 12;
+/// The refusal where an image would have too long a body.
+pub const TOO_LONG: u32 = 13;
+/// The refusal where the bytes are no image, or the nodes are none that an image can have.
+pub const NO_PACK: u32 = 14;
 
 #[repr(C)]
 #[derive(Clone, Copy, Default)]
@@ -141,6 +187,13 @@ unsafe extern "C" {
     fn thrinvage_list_clause(
         text: *const u8, length: usize, offset: usize, line: usize, column: usize, out: *mut u8, room: usize, clause: *mut RawClause,
     ) -> u32;
+    fn thrinvage_pack_clause(
+        text: *const u8, length: usize, offset: usize, line: usize, column: usize, out: *mut u8, room: usize, clause: *mut RawClause,
+    ) -> u32;
+    fn thrinvage_pack_nodes(
+        bytes: *const u8, length: usize, nodes: *const u32, numbers: usize, count: usize, out: *mut u8, room: usize, packed: *mut u64,
+    ) -> u32;
+    fn thrinvage_unpack(image: *const u8, length: usize, nodes: *mut u32, room: usize, count: *mut u64) -> u32;
 }
 
 impl RawToken {
@@ -209,14 +262,68 @@ pub fn list_clause(text: &[u8], at: Cursor, out: &mut [u8]) -> Result<Counted, R
     unless_refused(number, raw.refused_at, || raw.counted())
 }
 
+/// The clause behind the cursor as an image, at the front of `out`: `count` counts its bytes.
+pub fn pack_clause(text: &[u8], at: Cursor, out: &mut [u8]) -> Result<Counted, Refusal> {
+    let mut raw = RawClause::default();
+    let (room, lent) = (out.len(), out.as_mut_ptr());
+    // SAFETY: as above.
+    let number = unsafe { thrinvage_pack_clause(text.as_ptr(), text.len(), at.offset, at.line, at.column, lent, room, &mut raw) };
+    unless_refused(number, raw.refused_at, || raw.counted())
+}
+
 impl RawClause {
     fn counted(&self) -> Counted {
         Counted { count: self.count as usize, next: cursor(self.offset, self.line, self.column) }
     }
 }
 
-/// Whether nothing but layout stands behind the cursor: blanks, tabs, newlines, returns and whole comments. Where the clause or the line call is refused by
-/// 1 at this cursor, the text is whole exactly if this holds; else its last clause was cut off.
+/// `count` nodes as an image, at the front of `out`, and how many bytes it has. A node is four numbers: kind, arity, and the start and the length of its
+/// spelling, which is a part of `bytes`. Nobody judges the spellings.
+pub fn pack_nodes(bytes: &[u8], nodes: &[u32], count: usize, out: &mut [u8]) -> Result<usize, Refusal> {
+    let mut packed = 0;
+    let (room, lent) = (out.len(), out.as_mut_ptr());
+    // SAFETY: as above.
+    let number =
+        unsafe { thrinvage_pack_nodes(bytes.as_ptr(), bytes.len(), nodes.as_ptr(), nodes.len(), count, lent, room, &mut packed) };
+    unless_refused(number, 0, || packed as usize)
+}
+
+/// The nodes of an image, at the front of `nodes`. The image must end where its last node ends.
+pub fn unpack<'i, 'n>(image: &'i [u8], nodes: &'n mut [u32]) -> Result<Unpacked<'i, 'n>, Refusal> {
+    let mut count = 0;
+    let (room, lent) = (nodes.len(), nodes.as_mut_ptr());
+    // SAFETY: as above.
+    let number = unsafe { thrinvage_unpack(image.as_ptr(), image.len(), lent, room, &mut count) };
+    unless_refused(number, 0, || Unpacked { image, numbers: &nodes[..NUMBERS_A_NODE * count as usize] })
+}
+
+const NUMBERS_A_NODE: usize = 4;
+
+/// What was unpacked: children left to right, then their parent, the root last. Nobody has judged the spellings.
+#[derive(Clone, Copy, Debug)]
+pub struct Unpacked<'i, 'n> {
+    image: &'i [u8],
+    numbers: &'n [u32],
+}
+
+impl<'i, 'n> Unpacked<'i, 'n> {
+    /// The nodes with their spellings; `.rev()` goes from the root to the first.
+    pub fn nodes(&self) -> impl DoubleEndedIterator<Item = Node<'i>> + ExactSizeIterator + use<'i, 'n> {
+        let image = self.image;
+        self.numbers.chunks_exact(NUMBERS_A_NODE).map(move |node| {
+            let (kind, arity, start, length) = (node[0] as usize, node[1] as usize, node[2] as usize, node[3] as usize);
+            Node { kind: NODE_KINDS[kind], arity, spelling: &image[start..start + length] }
+        })
+    }
+
+    /// The image once more, from its nodes. It is the same, byte for byte, and `out` needs room for it.
+    pub fn pack(&self, out: &mut [u8]) -> Result<usize, Refusal> {
+        pack_nodes(self.image, self.numbers, self.nodes().len(), out)
+    }
+}
+
+/// Whether nothing but layout stands behind the cursor: blanks, tabs, newlines, returns and whole comments. Where the clause, the line or the pack call
+/// is refused by 1 at this cursor, the text is whole exactly if this holds; else its last clause was cut off.
 pub fn only_layout_behind(text: &[u8], at: Cursor) -> bool {
     let mut rest = text.get(at.offset..).unwrap_or_default();
     loop {
