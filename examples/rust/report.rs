@@ -21,11 +21,7 @@ const CALL: u32 = NodeKind::Call as u32;
 fn pack_gust(house: &str, speed: &str) -> Result<Vec<u8>, Refusal> {
     let bytes = [NAME, house, speed].concat();
     let (name, house, speed) = (NAME.len() as u32, house.len() as u32, speed.len() as u32);
-    let nodes = [
-        [PLAIN, 0, name, house],
-        [PLAIN, 0, name + house, speed],
-        [CALL, 2, 0, name],
-    ];
+    let nodes = [[PLAIN, 0, name, house], [PLAIN, 0, name + house, speed], [CALL, 2, 0, name]];
     let mut image = vec![0; IMAGE_BYTES];
     let length = pack_nodes(bytes.as_bytes(), nodes.as_flattened(), nodes.len(), &mut image)?;
     image.truncate(length);
