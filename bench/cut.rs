@@ -1,5 +1,6 @@
 //! Cuts Prolog text into clauses that both read alike, and joins them to texts of a wanted size.
 use crate::model::LONGEST_TEXT;
+use crate::table::Amount;
 use crate::thrinvage::{self, Cursor, Kind, Refusal, TREE_NUMBERS};
 use oracle::api::{END_OF_FILE, Machine};
 
@@ -119,5 +120,10 @@ impl Batch {
             clauses: kinds.iter().filter(|kind| **kind == Kind::End).count(),
             pieces,
         }
+    }
+
+    pub fn amount(&self) -> Amount {
+        let Batch { name, size, bytes, tokens, .. } = *self;
+        Amount { name, size, pieces: self.pieces.len(), parts: tokens, bytes }
     }
 }

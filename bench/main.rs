@@ -1,6 +1,8 @@
 //! Times this reader beside the Rust, in one run and over the same texts. See docs/PERFORMANCE.md.
 mod clock;
 mod cut;
+#[cfg(packs)]
+mod packs;
 mod race;
 mod readers;
 mod table;
@@ -26,7 +28,7 @@ use readers::Reader;
 use std::path::PathBuf;
 use std::process::ExitCode;
 use std::time::Instant;
-use table::{Line, print};
+use table::{Line, TOKENS, print};
 use texts::Corpus;
 
 const USAGE: &str = "usage: bench --demo FOLDER [--rounds N] [--real FOLDER]..";
@@ -63,19 +65,20 @@ fn batches(corpora: &[Corpus], machine: &mut Machine) -> Vec<Batch> {
 }
 
 /// The token call and the text call, each beside the Rust.
-fn beside_the_rust(batches: &[Batch], rounds: usize) -> (Vec<Line<'_>>, Vec<Line<'_>>) {
+fn beside_the_rust(batches: &[Batch], rounds: usize) -> (Vec<Line>, Vec<Line>) {
     let timed = batches.iter().map(|batch| {
-        let mut readers = [Reader::token_call(), Reader::text_call(), Reader::rust()];
-        let [tokens, texts, rust] = race(&mut readers, batch, rounds);
-        (Line { batch, times: [tokens, rust] }, Line { batch, times: [texts, rust] })
+        let readers = [Reader::token_call(), Reader::text_call(), Reader::rust()];
+        let [tokens, texts, rust] = race(readers.map(|reader| reader.over(batch)), rounds);
+        let of = batch.amount();
+        (Line { of, times: [tokens, rust] }, Line { of, times: [texts, rust] })
     });
     timed.unzip()
 }
 
-fn beside_the_token_calls(batches: &[Batch], rounds: usize) -> Vec<Line<'_>> {
+fn beside_the_token_calls(batches: &[Batch], rounds: usize) -> Vec<Line> {
     let timed = batches.iter().map(|batch| {
-        let mut readers = [Reader::token_call(), Reader::clause_call()];
-        Line { batch, times: race(&mut readers, batch, rounds) }
+        let readers = [Reader::token_call(), Reader::clause_call()];
+        Line { of: batch.amount(), times: race(readers.map(|reader| reader.over(batch)), rounds) }
     });
     timed.collect()
 }
@@ -88,11 +91,13 @@ fn run(options: &Options) {
     clauses.iter().for_each(|corpus| println!("clause call, {}", corpus.said()));
     let of_tokens = batches(&corpora, &mut machine);
     let (tokens, texts) = beside_the_rust(&of_tokens, options.rounds);
-    print("The token call beside the Rust", ["token call", "Rust"], &tokens);
-    print("The text call, each text copied out, beside the Rust", ["text call", "Rust"], &texts);
+    print("The token call beside the Rust", TOKENS, ["token call", "Rust"], &tokens);
+    print("The text call, each text copied out, beside the Rust", TOKENS, ["text call", "Rust"], &texts);
     let of_clauses = batches(&clauses, &mut machine);
     let lines = beside_the_token_calls(&of_clauses, options.rounds);
-    print("The clause call beside the token calls", ["token calls", "clause call"], &lines);
+    print("The clause call beside the token calls", TOKENS, ["token calls", "clause call"], &lines);
+    #[cfg(packs)]
+    packs::run(&of_clauses, options.rounds);
 }
 
 fn main() -> ExitCode {

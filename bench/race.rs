@@ -1,31 +1,29 @@
-//! The times of several readers over the same texts, in turns.
+//! The times of several pieces of work, in turns: each reads, packs or unpacks all of the same texts.
 use crate::clock;
-use crate::cut::Batch;
-use crate::readers::Reader;
 
 /// A measurement takes at least so long: a clock's step and an interrupt are then small beside it.
 const LEAST_NANOSECONDS: f64 = 5_000_000.0;
 
-/// Nanoseconds to read a batch once.
+/// Nanoseconds to do the work once.
 #[derive(Clone, Copy)]
 pub struct Times {
     pub median: f64,
     pub least: f64,
 }
 
-fn measure(reader: &mut Reader, batch: &Batch, repetitions: usize) -> f64 {
+fn measure(work: &mut impl FnMut(), repetitions: usize) -> f64 {
     let start = clock::nanoseconds();
     for _ in 0..repetitions {
-        reader.read(batch);
+        work();
     }
     (clock::nanoseconds() - start) / repetitions as f64
 }
 
-/// How often a batch is read in one measurement; finding it out warms the reader up.
-fn repetitions(reader: &mut Reader, batch: &Batch) -> usize {
+/// How often the work is done in one measurement; finding it out warms it up.
+fn repetitions(work: &mut impl FnMut()) -> usize {
     let mut tried = 1;
     loop {
-        let taken = measure(reader, batch, tried) * tried as f64;
+        let taken = measure(work, tried) * tried as f64;
         if taken >= LEAST_NANOSECONDS {
             return tried;
         }
@@ -38,13 +36,13 @@ fn times(mut measured: Vec<f64>) -> Times {
     Times { median: measured[measured.len() / 2], least: measured[0] }
 }
 
-/// One measurement of each reader a round, so that what disturbs the machine for a while disturbs them all.
-pub fn race<const N: usize>(readers: &mut [Reader; N], batch: &Batch, rounds: usize) -> [Times; N] {
-    let repeated = readers.each_mut().map(|reader| repetitions(reader, batch));
+/// One measurement of each a round, so that what disturbs the machine for a while disturbs them all.
+pub fn race<const N: usize>(mut works: [impl FnMut(); N], rounds: usize) -> [Times; N] {
+    let repeated = works.each_mut().map(repetitions);
     let mut measured = [const { Vec::new() }; N];
     for _ in 0..rounds {
-        for (i, reader) in readers.iter_mut().enumerate() {
-            measured[i].push(measure(reader, batch, repeated[i]));
+        for (i, work) in works.iter_mut().enumerate() {
+            measured[i].push(measure(work, repeated[i]));
         }
     }
     measured.map(times)

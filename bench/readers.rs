@@ -29,8 +29,13 @@ impl Reader {
         Reader::Rust(Box::default())
     }
 
-    /// Reads the whole batch. That all of it was read is asked anew each time, at the cost of a comparison.
-    pub fn read(&mut self, batch: &Batch) {
+    /// Reads the whole batch, as often as it is called.
+    pub fn over(mut self, batch: &Batch) -> impl FnMut() {
+        move || self.read(batch)
+    }
+
+    /// That all of it was read is asked anew each time, at the cost of a comparison.
+    fn read(&mut self, batch: &Batch) {
         let read: usize = batch.pieces.iter().map(|text| self.count(text)).sum();
         let due = if matches!(self, Reader::ClauseCall { .. }) { batch.clauses } else { batch.tokens };
         assert_eq!(read, due, "a reader stopped early");
