@@ -16,6 +16,11 @@ static size_t length;
 static uint8_t scratch[MOST_BYTES];
 static uint16_t tree[2048];
 static uint8_t line[70650];
+/* The text's first clause as a pack, and the nodes of that; none where it is refused. */
+static uint8_t image[THRINVAGE_IMAGE_BYTES], again[THRINVAGE_IMAGE_BYTES];
+static uint32_t nodes[THRINVAGE_NODE_NUMBERS];
+static struct thrinvage_clause packed;
+static uint64_t count;
 
 static void next_token(void) {
     struct thrinvage_token t = {0};
@@ -43,6 +48,21 @@ static void list_clause(void) {
     thrinvage_list_clause(text, length, 0, 0, 0, line, sizeof line, &c);
 }
 
+static void pack_clause(void) {
+    packed.count = 0;
+    thrinvage_pack_clause(text, length, 0, 0, 0, image, sizeof image, &packed);
+}
+
+static void unpack(void) {
+    count = 0;
+    thrinvage_unpack(image, packed.count, nodes, THRINVAGE_NODE_NUMBERS, &count);
+}
+
+static void pack_nodes(void) {
+    uint64_t bytes = 0;
+    thrinvage_pack_nodes(image, packed.count, nodes, THRINVAGE_NODE_NUMBERS, count, again, sizeof again, &bytes);
+}
+
 static const struct {
     const char *name;
     void (*call)(void);
@@ -50,7 +70,10 @@ static const struct {
              {"thrinvage_next_number_token", next_number_token},
              {"thrinvage_next_token_text", next_token_text},
              {"thrinvage_read_clause", read_clause},
-             {"thrinvage_list_clause", list_clause}};
+             {"thrinvage_list_clause", list_clause},
+             {"thrinvage_pack_clause", pack_clause},
+             {"thrinvage_pack_nodes", pack_nodes},
+             {"thrinvage_unpack", unpack}};
 
 /* Texts that go deep, each in its own way: `front`, `open` so many times, `middle`, `close` as often, `back`. */
 static const struct {
@@ -79,6 +102,8 @@ static void make_text(size_t which) {
     put(TEXTS[which].middle, 1);
     put(TEXTS[which].close, TEXTS[which].count);
     put(TEXTS[which].back, 1);
+    pack_clause();
+    unpack();
 }
 
 /* Both have the same frame, so that the one reads what the other painted. */
