@@ -1,5 +1,8 @@
 /* Calls the archive with random texts, cursors and rooms, each call twice in two places, and looks at all that comes back. See tools/README.md.
  * usage: fuzz [--seconds N] [--seed N] [--round N] [--place N] FILE..    (FILEs of Prolog, parts of which are among the texts) */
+#include "images.h"
+#include "packs.h"
+#include "report.h"
 #include "slice.h"
 #include "texts.h"
 #include "thrinvage.h"
@@ -9,20 +12,7 @@
 #include <string.h>
 #include <time.h>
 
-enum call { TOKEN, NUMBER, TEXT, READ, LIST, CALLS };
-enum { REFUSALS = 13, LONGEST_TEXT = 65535, LARGEST_ROOM = 4096, MOST_NODES = 1023 };
-
-static const char *const call_names[CALLS] = {"next_token", "next_number_token", "next_token_text", "read_clause", "list_clause"};
-
-struct cursor {
-    size_t offset, line, column;
-};
-
-struct asked {
-    enum call call;
-    struct cursor at;
-    size_t room;
-};
+enum { LONGEST_TEXT = 65535, LARGEST_ROOM = 4096 };
 
 /* All begin with the cursor and the refusal's offset. */
 union record {
@@ -38,36 +28,12 @@ struct given {
     uint32_t number;
     uint8_t fill;
     union record record;
-    uint8_t lent[2 * LARGEST_ROOM];
+    uint8_t lent[LARGEST_SLICE];
 };
 
-/* What runs, for a report of what fails. */
-static uint64_t seed, now_round;
-static struct asked now_asked;
 static struct text now_text;
-
-static uint64_t counts[CALLS][REFUSALS];
-static int only_place = -1;
-
-/* ---- reports */
-
-static void show_case(void)
-{
-    fprintf(stderr, "fuzz: --seed %llu --round %llu: %s at %zu %zu %zu, room %zu, text of %zu bytes:", (unsigned long long)seed,
-            (unsigned long long)now_round, call_names[now_asked.call], now_asked.at.offset, now_asked.at.line, now_asked.at.column, now_asked.room, now_text.length);
-    for (size_t i = 0; i < now_text.length && i < 300; i++)
-        fprintf(stderr, " %02x", now_text.bytes[i]);
-    fprintf(stderr, "\n");
-}
-
-static void must(bool so, const char *what)
-{
-    if (so)
-        return;
-    fprintf(stderr, "fuzz: fault: %s\n", what);
-    show_case();
-    _Exit(1); /* the search for leaks would take seconds, and tells nothing more */
-}
+/* The last pack that was made of it. */
+static struct text now_packed;
 
 /* ---- one call in its places */
 
@@ -75,15 +41,15 @@ static size_t record_size(enum call call)
 {
     if (call == TEXT)
         return sizeof(struct thrinvage_token_text);
-    return call == READ || call == LIST ? sizeof(struct thrinvage_clause) : sizeof(struct thrinvage_token);
+    return call >= READ ? sizeof(struct thrinvage_clause) : sizeof(struct thrinvage_token);
 }
 
-static size_t lent_size(const struct asked *asked)
+static size_t lent_size(const struct running *asked)
 {
     return asked->call == READ ? 2 * asked->room : asked->room;
 }
 
-static uint32_t put(const struct asked *asked, const struct slice *text, void *lent, void *record)
+static uint32_t put(const struct running *asked, const struct slice *text, void *lent, void *record)
 {
     size_t offset = asked->at.offset, line = asked->at.line, column = asked->at.column;
     switch (asked->call) {
@@ -91,16 +57,12 @@ static uint32_t put(const struct asked *asked, const struct slice *text, void *l
     case NUMBER: return thrinvage_next_number_token(text->at, text->size, offset, line, column, record);
     case TEXT: return thrinvage_next_token_text(text->at, text->size, offset, line, column, lent, asked->room, record);
     case READ: return thrinvage_read_clause(text->at, text->size, offset, line, column, lent, asked->room, record);
-    default: return thrinvage_list_clause(text->at, text->size, offset, line, column, lent, asked->room, record);
+    case LIST: return thrinvage_list_clause(text->at, text->size, offset, line, column, lent, asked->room, record);
+    default: return thrinvage_pack_clause(text->at, text->size, offset, line, column, lent, asked->room, record);
     }
 }
 
-static enum place some_place(struct random *random)
-{
-    return only_place < 0 ? (enum place)random_below(random, PLACES) : (enum place)only_place;
-}
-
-static void ask(struct random *random, const struct asked *asked, const struct slice *text, struct given *given)
+static void ask(struct random *random, const struct running *asked, const struct slice *text, struct given *given)
 {
     struct slice lent = new_slice(LENT_SLICE, some_place(random), lent_size(asked), (uint8_t)random_next(random));
     struct slice record = new_slice(RECORD_SLICE, some_place(random), record_size(asked->call), (uint8_t)random_next(random));
@@ -155,22 +117,33 @@ static bool is_same_cursor(struct cursor a, struct cursor b)
     return a.offset == b.offset && a.line == b.line && a.column == b.column;
 }
 
-static void check_refused(const struct asked *asked, const struct given *given)
+static bool is_refusal_of(enum call call, uint32_t number)
+{
+    return call == PACK ? number <= THRINVAGE_TOO_LONG && number != THRINVAGE_NO_TEXT : number <= THRINVAGE_NO_TEXT;
+}
+
+/* The refusals at 0: pack_clause's own, and that of a cursor. */
+static bool is_at_start(enum call call, uint32_t number)
+{
+    return number == THRINVAGE_NOT_VALID || (call == PACK && (number == THRINVAGE_TOO_LONG || number == THRINVAGE_NO_ROOM));
+}
+
+static void check_refused(const struct running *asked, const struct given *given)
 {
     const uint64_t *fields = given->record.fields;
     uint64_t filled;
     memset(&filled, given->fill, sizeof filled);
-    must(given->number < REFUSALS, "no such refusal");
+    must(is_refusal_of(asked->call, given->number), "no such refusal");
     must(given->number == THRINVAGE_NOT_VALID || is_valid(asked->at), "a text or cursor that is not valid is refused as something else");
     must(given->number != THRINVAGE_NOT_VALID || !is_valid(asked->at), "a valid text and cursor are refused as not valid");
     must(fields[REFUSED_AT_FIELD] <= now_text.length, "a refusal points behind the text");
-    must(given->number != THRINVAGE_NOT_VALID || fields[REFUSED_AT_FIELD] == 0, "refusal 8 points elsewhere than at 0");
+    must(!is_at_start(asked->call, given->number) || fields[REFUSED_AT_FIELD] == 0, "a refusal points elsewhere than at 0");
     for (size_t i = 0; i < record_size(asked->call) / sizeof *fields; i++)
         must(i == REFUSED_AT_FIELD || fields[i] == filled, "a refusal writes another field of the record");
     must(is_untouched(given, 0, lent_size(asked)), "a refusal writes to the lent slice");
 }
 
-static void check_token(const struct asked *asked, const struct thrinvage_token *token)
+static void check_token(const struct running *asked, const struct thrinvage_token *token)
 {
     must(token->start >= asked->at.offset && token->start < token->offset, "a token starts outside of what was read");
     must(token->kind <= THRINVAGE_END, "no such kind");
@@ -180,7 +153,7 @@ static void check_token(const struct asked *asked, const struct thrinvage_token 
     must(token->value >> 63 == 0, "a value has its highest bit");
 }
 
-static void check_text(const struct asked *asked, const struct given *given)
+static void check_text(const struct running *asked, const struct given *given)
 {
     const struct thrinvage_token_text *text = &given->record.text;
     must(text->token.kind <= THRINVAGE_STRING, "a token without text has one");
@@ -209,7 +182,7 @@ static bool is_tree(const struct given *given, size_t count)
     return stack == 1;
 }
 
-static void check_tree(const struct asked *asked, const struct given *given)
+static void check_tree(const struct running *asked, const struct given *given)
 {
     size_t count = given->record.clause.count;
     must(count >= 1 && count <= MOST_NODES && 2 * count <= asked->room, "no such count of nodes");
@@ -226,7 +199,7 @@ static bool is_one_line(const uint8_t *bytes, size_t count)
     return true;
 }
 
-static void check_line(const struct asked *asked, const struct given *given)
+static void check_line(const struct running *asked, const struct given *given)
 {
     size_t count = given->record.clause.count;
     must(count >= 1 && count <= asked->room, "no such count of bytes");
@@ -234,7 +207,18 @@ static void check_line(const struct asked *asked, const struct given *given)
     must(is_one_line(given->lent, count), "a line is more than one");
 }
 
-static void check_read(const struct asked *asked, const struct given *given)
+static void check_pack(const struct running *asked, const struct given *given)
+{
+    static struct nodes nodes;
+    size_t count = given->record.clause.count;
+    must(count >= 1 && count <= asked->room, "no such count of bytes");
+    must(is_untouched(given, count, asked->room), "the image is written behind its bytes");
+    now_packed.length = count;
+    memcpy(now_packed.bytes, given->lent, count);
+    must(plain_unpack(&now_packed, &nodes), "the image is no pack");
+}
+
+static void check_read(const struct running *asked, const struct given *given)
 {
     struct cursor next = next_of(given);
     must(is_valid(asked->at), "a text or cursor that is not valid is read");
@@ -249,19 +233,22 @@ static void check_read(const struct asked *asked, const struct given *given)
         check_tree(asked, given);
     else if (asked->call == LIST)
         check_line(asked, given);
+    else if (asked->call == PACK)
+        check_pack(asked, given);
 }
 
-static size_t written_size(const struct asked *asked, const struct given *given)
+static size_t written_size(const struct running *asked, const struct given *given)
 {
     switch (asked->call) {
     case TEXT: return given->record.text.part == THRINVAGE_SCRATCH ? given->record.text.part_end : 0;
     case READ: return 4 * given->record.clause.count;
-    case LIST: return given->record.clause.count;
+    case LIST:
+    case PACK: return given->record.clause.count;
     default: return 0;
     }
 }
 
-static bool is_same(const struct asked *asked, const struct given *one, const struct given *other)
+static bool is_same(const struct running *asked, const struct given *one, const struct given *other)
 {
     if (one->number != other->number || one->number != THRINVAGE_READ)
         return one->number == other->number && one->record.fields[REFUSED_AT_FIELD] == other->record.fields[REFUSED_AT_FIELD];
@@ -291,15 +278,15 @@ static void check_copy(const struct slice *slice)
 static void call_twice(struct random *random, const struct copies *copies, enum call call, struct cursor at, size_t room, struct given *given)
 {
     static struct given again;
-    now_asked = (struct asked){call, at, room};
-    ask(random, &now_asked, &copies->one, given);
+    running = (struct running){.call = call, .at = at, .room = room, .bytes = now_text.bytes, .length = now_text.length};
+    ask(random, &running, &copies->one, given);
     if (given->number == THRINVAGE_READ)
-        check_read(&now_asked, given);
+        check_read(&running, given);
     else
-        check_refused(&now_asked, given);
-    ask(random, &now_asked, &copies->other, &again);
-    must(is_same(&now_asked, given, &again), "the same call gives another answer");
-    counts[call][given->number] += 2;
+        check_refused(&running, given);
+    ask(random, &running, &copies->other, &again);
+    must(is_same(&running, given, &again), "the same call gives another answer");
+    count_answers(given->number);
 }
 
 static size_t some_room(struct random *random)
@@ -334,6 +321,90 @@ static void check_line_beside_tree(const struct given *tree, const struct given 
     must(tree->number != THRINVAGE_READ || is_same_cursor(next_of(tree), next_of(line)), "list_clause and read_clause end at different places");
 }
 
+/* ---- pack_clause beside the clause call and the token calls */
+
+struct span {
+    size_t start, end;
+};
+
+static void find_spans(struct cursor at, size_t end, struct span *spans)
+{
+    struct thrinvage_token token = {.offset = at.offset, .line = at.line, .column = at.column};
+    for (size_t i = 0; i < THRINVAGE_MOST_TOKENS && token.offset < end; i++) {
+        uint32_t number = thrinvage_next_token(now_text.bytes, now_text.length, token.offset, token.line, token.column, &token);
+        must(number == THRINVAGE_READ, "a token of a clause that was read is refused");
+        spans[i] = (struct span){token.start, token.offset};
+    }
+}
+
+/* The clause's nodes, with their spellings in the text. */
+static uint32_t read_nodes(struct cursor at, struct nodes *nodes, struct thrinvage_clause *clause)
+{
+    static uint16_t tree[THRINVAGE_TREE_NUMBERS];
+    static struct span spans[THRINVAGE_MOST_TOKENS + 1]; /* one more, so that each has one behind it */
+    uint32_t number = thrinvage_read_clause(now_text.bytes, now_text.length, at.offset, at.line, at.column, tree, THRINVAGE_TREE_NUMBERS, clause);
+    if (number != THRINVAGE_READ)
+        return number;
+    find_spans(at, clause->offset, spans);
+    must(clause->count <= MOST_NODES, "no such count of nodes");
+    nodes->count = clause->count;
+    for (size_t i = 0; i < nodes->count; i++) {
+        uint32_t *node = nodes->numbers + NUMBERS * i;
+        const struct span *span = spans + tree[2 * i] % THRINVAGE_MOST_TOKENS;
+        node[KIND] = tree[2 * i + 1] / 1024;
+        node[ARITY] = tree[2 * i + 1] % 1024;
+        node[START] = (uint32_t)span->start;
+        node[LENGTH] = (uint32_t)((node[KIND] == THRINVAGE_NEGATIVE ? span[1].end : span->end) - span->start);
+    }
+    return THRINVAGE_READ;
+}
+
+static void check_image(const struct nodes *nodes, size_t room, const struct given *given)
+{
+    static struct text image;
+    uint32_t number = plain_verdict(now_text.length, nodes, NUMBERS * nodes->count, nodes->count);
+    image.length = 0;
+    if (number == THRINVAGE_READ)
+        plain_pack(now_text.bytes, nodes, nodes->count, &image);
+    must(given->number == (room < image.length ? THRINVAGE_NO_ROOM : number), "pack_clause answers by another number than the tree's nodes have");
+    bool same = given->record.clause.count == image.length && memcmp(given->lent, image.bytes, image.length) == 0;
+    must(given->number != THRINVAGE_READ || same, "pack_clause writes another image than the tree's nodes have");
+}
+
+static void check_pack_beside_tree(struct cursor at, size_t room, const struct given *given)
+{
+    static struct nodes nodes;
+    struct thrinvage_clause clause;
+    uint32_t number = read_nodes(at, &nodes, &clause);
+    if (number != THRINVAGE_READ) {
+        must(given->number == number, "pack_clause and read_clause do not refuse alike");
+        must(given->record.fields[REFUSED_AT_FIELD] == clause.refused_at, "pack_clause and read_clause refuse at different places");
+        return;
+    }
+    struct cursor next = {clause.offset, clause.line, clause.column};
+    check_image(&nodes, room, given);
+    must(given->number != THRINVAGE_READ || is_same_cursor(next_of(given), next), "pack_clause and read_clause end at different places");
+}
+
+static void pack_into(struct random *random, const struct copies *copies, struct cursor at, size_t room, struct given *given)
+{
+    call_twice(random, copies, PACK, at, room, given);
+    check_pack_beside_tree(at, room, given);
+}
+
+/* Where it is packed, once more into the room that is needed, and into one byte less. */
+static void call_pack(struct random *random, const struct copies *copies, struct cursor at)
+{
+    static struct given given;
+    bool is_long = now_text.length > LARGEST_ROOM || random_one_in(random, 100);
+    pack_into(random, copies, at, is_long ? THRINVAGE_IMAGE_BYTES : some_room(random), &given);
+    if (given.number != THRINVAGE_READ)
+        return;
+    size_t needed = given.record.clause.count;
+    pack_into(random, copies, at, needed, &given);
+    pack_into(random, copies, at, needed - 1, &given);
+}
+
 static void call_the_others(struct random *random, const struct copies *copies, struct cursor at, const struct given *token)
 {
     static struct given given, other;
@@ -343,6 +414,7 @@ static void call_the_others(struct random *random, const struct copies *copies, 
     call_twice(random, copies, READ, at, some_room(random), &given);
     call_twice(random, copies, LIST, at, some_room(random), &other);
     check_line_beside_tree(&given, &other);
+    call_pack(random, copies, at);
 }
 
 /* Through the whole text by the token call, which must end; the other calls at some of its cursors. */
@@ -395,6 +467,7 @@ static void run_round(void)
 {
     struct random random = {seed * 0x2545f4914f6cdd1du + now_round};
     make_text(&random, &now_text);
+    now_packed.length = 0;
     struct copies copies = {copy(&random, TEXT_SLICE), copy(&random, OTHER_TEXT_SLICE)};
     walk(&random, &copies);
     jump(&random, &copies);
@@ -402,29 +475,10 @@ static void run_round(void)
     check_copy(&copies.other);
     free_slice(&copies.one);
     free_slice(&copies.other);
+    run_packs(&random, &now_packed);
 }
 
 /* ---- the run */
-
-/* The number of calls; a run without any shows nothing. */
-static uint64_t show_counts(void)
-{
-    uint64_t sum = 0;
-    printf("%-18s %12s", "call", "read");
-    for (int number = 1; number < REFUSALS; number++)
-        printf(" %9s %d", "refused", number);
-    printf("\n");
-    for (int call = 0; call < CALLS; call++) {
-        printf("%-18s %12llu", call_names[call], (unsigned long long)counts[call][0]);
-        for (int number = 1; number < REFUSALS; number++)
-            printf(" %*llu", number < 10 ? 11 : 12, (unsigned long long)counts[call][number]);
-        printf("\n");
-        for (int number = 0; number < REFUSALS; number++)
-            sum += counts[call][number];
-    }
-    printf("%llu calls in %llu rounds, seed %llu, 0 faults\n", (unsigned long long)sum, (unsigned long long)now_round, (unsigned long long)seed);
-    return sum;
-}
 
 static double seconds_now(void)
 {

@@ -8,6 +8,8 @@
 
 enum { FENCE = 64 };
 
+int only_place = -1;
+
 struct pages {
     uint8_t *start, *end;
 };
@@ -30,6 +32,11 @@ void map_pages(void)
 {
     for (int role = 0; role < ROLES; role++)
         pages_of[role] = guarded_pages(LARGEST_SLICE + 2 * FENCE);
+}
+
+enum place some_place(struct random *random)
+{
+    return only_place < 0 ? (enum place)random_below(random, PLACES) : (enum place)only_place;
 }
 
 static uint8_t *place_in_pages(const struct pages *pages, enum place place, size_t size)

@@ -2,9 +2,7 @@
 #ifndef FUZZ_SLICE_H
 #define FUZZ_SLICE_H
 
-#include <stdbool.h>
-#include <stddef.h>
-#include <stdint.h>
+#include "random.h"
 
 enum place {
     EXACT,        /* malloc'ed at its exact length (null for 0): ASan sees every access past an end by code that is built with ASan */
@@ -15,7 +13,7 @@ enum place {
 };
 
 /* What is alive at the same time has pages of its own. */
-enum role { TEXT_SLICE, OTHER_TEXT_SLICE, LENT_SLICE, RECORD_SLICE, ROLES };
+enum role { TEXT_SLICE, OTHER_TEXT_SLICE, NODES_SLICE, LENT_SLICE, RECORD_SLICE, ROLES };
 
 enum { LARGEST_SLICE = 65600 };
 
@@ -27,7 +25,11 @@ struct slice {
     uint8_t fence; /* the known byte around it */
 };
 
+/* A place for all slices, or -1. */
+extern int only_place;
+
 void map_pages(void);
+enum place some_place(struct random *random);
 struct slice new_slice(enum role role, enum place place, size_t size, uint8_t fence);
 bool is_fence_whole(const struct slice *slice);
 void free_slice(struct slice *slice);

@@ -198,6 +198,21 @@ static void repeat(struct random *random, struct text *text, size_t length)
         add_word(text, PICK(random, ends));
 }
 
+/* A clause whose pack is as long as one may be, a little shorter or longer: a call with short arguments, and a long one at last. */
+static void make_long_clause(struct random *random, struct text *text)
+{
+    enum { LONGEST_BODY = 65535, COUNT_BYTES = 2, NODE_BYTES = 5 };
+    size_t shorter = random_below(random, 500);
+    size_t body = LONGEST_BODY - 4 + random_below(random, 9);
+    text->length = 0;
+    add_word(text, "f(");
+    for (size_t i = 0; i < shorter; i++)
+        add_word(text, "a,");
+    for (size_t used = COUNT_BYTES + (shorter + 1) * (NODE_BYTES + 1) + NODE_BYTES; used < body; used++)
+        add_byte(text, 'a');
+    add_word(text, "). ");
+}
+
 static void damage_once(struct random *random, struct text *text)
 {
     size_t at = random_below(random, text->length);
@@ -234,6 +249,10 @@ static size_t some_length(struct random *random)
 void make_text(struct random *random, struct text *text)
 {
     size_t length = some_length(random);
+    if (random_one_in(random, 3000)) {
+        make_long_clause(random, text);
+        return;
+    }
     if (random_one_in(random, 12))
         repeat(random, text, length);
     else

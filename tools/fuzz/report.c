@@ -1,0 +1,70 @@
+#include "report.h"
+#include <stdio.h>
+#include <stdlib.h>
+
+enum { MOST_SHOWN = 300 };
+
+static const char *const call_names[CALLS] = {"next_token",  "next_number_token", "next_token_text", "read_clause",
+                                              "list_clause", "pack_clause",       "unpack",          "pack_nodes"};
+
+uint64_t seed, now_round;
+struct running running;
+
+static uint64_t counts[CALLS][REFUSALS];
+
+static void show_bytes(void)
+{
+    for (size_t i = 0; i < running.length && i < MOST_SHOWN; i++)
+        fprintf(stderr, " %02x", running.bytes[i]);
+    fprintf(stderr, "\n");
+}
+
+static void show_nodes(void)
+{
+    fprintf(stderr, "fuzz: count %zu, %zu numbers:", running.count, running.numbers);
+    for (size_t i = 0; i < running.numbers && i < MOST_SHOWN; i++)
+        fprintf(stderr, " %lu", (unsigned long)running.nodes[i]);
+    fprintf(stderr, "\n");
+}
+
+void show_case(void)
+{
+    fprintf(stderr, "fuzz: --seed %llu --round %llu: %s at %zu %zu %zu, room %zu, %zu bytes:", (unsigned long long)seed, (unsigned long long)now_round,
+            call_names[running.call], running.at.offset, running.at.line, running.at.column, running.room, running.length);
+    show_bytes();
+    if (running.call == NODES)
+        show_nodes();
+}
+
+void must(bool so, const char *what)
+{
+    if (so)
+        return;
+    fprintf(stderr, "fuzz: fault: %s\n", what);
+    show_case();
+    _Exit(1); /* the search for leaks would take seconds, and tells nothing more */
+}
+
+void count_answers(uint32_t number)
+{
+    counts[running.call][number] += 2;
+}
+
+uint64_t show_counts(void)
+{
+    uint64_t sum = 0;
+    printf("%-18s %12s", "call", "read");
+    for (int number = 1; number < REFUSALS; number++)
+        printf(" %9s %d", "refused", number);
+    printf("\n");
+    for (int call = 0; call < CALLS; call++) {
+        printf("%-18s %12llu", call_names[call], (unsigned long long)counts[call][0]);
+        for (int number = 1; number < REFUSALS; number++)
+            printf(" %*llu", number < 10 ? 11 : 12, (unsigned long long)counts[call][number]);
+        printf("\n");
+        for (int number = 0; number < REFUSALS; number++)
+            sum += counts[call][number];
+    }
+    printf("%llu calls in %llu rounds, seed %llu, 0 faults\n", (unsigned long long)sum, (unsigned long long)now_round, (unsigned long long)seed);
+    return sum;
+}

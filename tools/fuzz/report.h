@@ -1,0 +1,40 @@
+/* What runs, for a report of what fails, and the counts of the answers. */
+#ifndef FUZZ_REPORT_H
+#define FUZZ_REPORT_H
+
+#include <stdbool.h>
+#include <stddef.h>
+#include <stdint.h>
+
+/* Up to PACK they read a text from a cursor on. */
+enum call { TOKEN, NUMBER, TEXT, READ, LIST, PACK, UNPACK, NODES, CALLS };
+enum { REFUSALS = 15 };
+
+struct cursor {
+    size_t offset, line, column;
+};
+
+/* A call and what it is given: the last three are of NODES alone. */
+struct running {
+    enum call call;
+    struct cursor at;
+    size_t room;
+    const uint8_t *bytes;
+    size_t length;
+    const uint32_t *nodes;
+    size_t numbers, count;
+};
+
+extern uint64_t seed, now_round;
+extern struct running running;
+
+void must(bool so, const char *what);
+void show_case(void);
+
+/* Of the two calls that must answer alike. */
+void count_answers(uint32_t number);
+
+/* The number of calls; a run without any shows nothing. */
+uint64_t show_counts(void);
+
+#endif
