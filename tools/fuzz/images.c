@@ -202,11 +202,15 @@ static void make_long(struct random *random, struct nodes *nodes)
     node[LENGTH] = (uint32_t)(others < body ? body - others : 0);
 }
 
+/* Bytes of all kinds, and such as stand in the fields. */
 static void fill_bytes(struct random *random, struct text *bytes, size_t length)
 {
     bytes->length = length < LONGEST_MADE ? length : LONGEST_MADE;
-    for (size_t i = 0; i < bytes->length; i++)
-        bytes->bytes[i] = random_one_in(random, 2) ? (uint8_t)random_next(random) : (uint8_t)random_below(random, 3);
+    for (size_t i = 0; i < bytes->length; i += sizeof(uint64_t)) {
+        uint64_t some = random_next(random), small = some & 0x0303030303030303u;
+        size_t left = bytes->length - i;
+        memcpy(bytes->bytes + i, some >> 63 ? &some : &small, left < sizeof some ? left : sizeof some);
+    }
 }
 
 /* ---- nodes */
@@ -242,11 +246,20 @@ static void end_with_bytes(struct random *random, size_t length, uint32_t *node)
     node[START] = (uint32_t)(length - node[LENGTH]) + random_one_in(random, 2);
 }
 
+/* Each spelling is all of the bytes: with some hundred nodes that is too long. */
+static void spell_all(size_t length, struct nodes *nodes)
+{
+    for (uint32_t *node = nodes->numbers; node < nodes->numbers + NUMBERS * nodes->count; node += NUMBERS) {
+        node[START] = 0;
+        node[LENGTH] = (uint32_t)length;
+    }
+}
+
 void damage_nodes(struct random *random, size_t length, struct nodes *nodes)
 {
     uint32_t *node = some_node(random, nodes);
     size_t left = node[START] < length ? length - node[START] : 0;
-    switch (random_below(random, 8)) {
+    switch (random_below(random, 9)) {
     case 0: node[KIND] = random_one_in(random, 2) ? (uint32_t)random_below(random, 11) : some_number(random, 256); break;
     case 1: node[ARITY] = random_one_in(random, 2) ? (uint32_t)random_below(random, 4) : some_number(random, nodes->count); break;
     case 2: node[START] = some_number(random, length); break;
@@ -254,6 +267,7 @@ void damage_nodes(struct random *random, size_t length, struct nodes *nodes)
     case 4: swap_nodes(random, nodes); break;
     case 5: end_with_bytes(random, length, node); break;
     case 6: make_long(random, nodes); break;
+    case 7: spell_all(length, nodes); break;
     default: nodes->count = random_below(random, nodes->count) + 1; break;
     }
 }
@@ -269,8 +283,8 @@ static void place_spellings(struct random *random, size_t length, struct nodes *
 
 void make_nodes(struct random *random, struct text *bytes, struct nodes *nodes)
 {
-    bool is_long = random_one_in(random, 40);
-    fill_bytes(random, bytes, is_long ? LONGEST_BODY - 10 + random_below(random, 20) : random_below(random, random_one_in(random, 4) ? 2000 : 20));
+    bool is_long = random_one_in(random, 200);
+    fill_bytes(random, bytes, is_long ? LONGEST_BODY - 10 + random_below(random, 20) : random_below(random, random_one_in(random, 4) ? 4000 : 20));
     make_tree(random, nodes);
     if (is_long)
         make_long(random, nodes);
@@ -284,7 +298,7 @@ void make_image(struct random *random, struct text *image)
     static struct text bytes;
     static struct nodes nodes;
     make_tree(random, &nodes);
-    if (random_one_in(random, 60))
+    if (random_one_in(random, 200))
         make_long(random, &nodes);
     fill_bytes(random, &bytes, body_of(&nodes));
     place_spellings(random, bytes.length, &nodes);

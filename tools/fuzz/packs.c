@@ -256,7 +256,7 @@ static void some_image(struct random *random, const struct text *packed, struct 
 void run_packs(struct random *random, const struct text *packed)
 {
     static struct text image;
-    for (int more = 3; more > 0; more--) {
+    for (int more = 2; more > 0; more--) {
         some_image(random, packed, &image);
         if (random_one_in(random, 2))
             damage_image(random, &image);

@@ -249,7 +249,7 @@ static size_t some_length(struct random *random)
 void make_text(struct random *random, struct text *text)
 {
     size_t length = some_length(random);
-    if (random_one_in(random, 3000)) {
+    if (random_one_in(random, 500)) {
         make_long_clause(random, text);
         return;
     }
