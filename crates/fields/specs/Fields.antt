@@ -1,6 +1,7 @@
 -- The C interface: what a function returns, and what it leaves in the lent fields, from what was read or the refusal. The fields and their
 -- numbers are those of `include/thrinvage.h`. Definitions only.
 use Prim.Native.Nat.{ℕ, _≤_}
+use mathlib.Core.Path.{_≡_}
 use mathlib.Core.Bool.{cond}
 use mathlib.Core.List.{List, [], _∷_, _++_}
 use lib.Ieee.{Float, eq, toBits, binary64}
@@ -96,6 +97,13 @@ answerLeaves (Answer.Refused w c) d = refusedFields w d
 unfoldable pub answerTextLeaves : TextAnswer → List ℕ → Outcome
 answerTextLeaves (TextAnswer.Read t c p) d = leaves 0 (sets (sets d 0 (tokenFields t c)) 8 (partFields p))
 answerTextLeaves (TextAnswer.Refused w c) d = refusedFields w d
+
+-- ---- a function that lends a slice to a call: the slice is left as x, the fields f as g, and r is returned, if the call may answer so and leave x, and r and g
+-- tell this answer. Where two that the call permits coincide, so do two that are left (proofs/Theorems)
+pub record Left {A : Type 0} (Permits : A → List ℕ → Type 0) (tells : A → List ℕ → Outcome) (x f g : List ℕ) (r : ℕ) : Type 0 where
+  pub answer : A
+  pub permitted : Permits answer x
+  pub told : leaves r g ≡ tells answer f
 
 -- ---- what the private functions ask: n fields at least
 pub record Room (n : ℕ) (d : List ℕ) : Type 0 where

@@ -12,6 +12,7 @@ use lexer::Value;
 use lexer::refusal_number;
 ghost use mathlib.Core.Path.{_≡_};
 ghost use lib.Seq.{sets};
+ghost use Rattle.lexer.specs.Refusal.{numberOf};
 ghost use Rattle.fields.specs.Fields.{leaves, kindNumber, valueKind, valueBits, bitsOf, refusedFields, cursorFields, kindFields, tokenFields, partFields, countFields, answerLeaves, answerTextLeaves, Room};
 
 const OFFSET: usize = 0;
@@ -95,14 +96,21 @@ fn value_bits(value: Value) -> u64
     }
 }
 
+// A refusal's number, as it is returned.
+pub fn fault_number(fault: Fault) -> u32
+    ensures { λ r. ⌜ r ≡ numberOf (fault .refusal) ⌝ }
+{
+    let refusal = fault.refusal;
+    refusal_number(refusal) as u32
+}
+
 // A refusal: its offset is put down, and its number handed back.
 fn put_refused(fault: Fault, fields: &mut [u64]) -> u32
     requires { ⌜ Room 5 (now fields) ⌝ }
     ensures { λ r. ⌜ leaves r (now (fields .exit)) ≡ refusedFields fault (now (fields .entry)) ⌝ }
 {
     fields[REFUSED_AT] = fault.offset as u64;
-    let refusal = fault.refusal;
-    refusal_number(refusal) as u32
+    fault_number(fault)
 }
 
 // The cursor behind what was read.

@@ -10,11 +10,8 @@ ruleset ways = (there, needs)
 slice-write-fields : tie.Need-slice-write-fields
 slice-write-fields c = search ways
 
-refusal-number-requires : tie.Need-refusal-number-requires
-refusal-number-requires c κs = search ways
-
-cast-result : tie.Need-cast-result
-cast-result c = search ways
+fault-number-requires : tie.Need-fault-number-requires
+fault-number-requires c κs = search ways
 
 same-length : tie.Need-same-length
 same-length c = search ways
@@ -24,4 +21,4 @@ returns c = search ways
 
 pub put-refused-spec : {M : Type 1} → statement M
 put-refused-spec =
-    tie.close (tie.spec slice-write-fields refusal-number-requires cast-result same-length returns)
+    tie.close (tie.spec slice-write-fields fault-number-requires same-length returns)

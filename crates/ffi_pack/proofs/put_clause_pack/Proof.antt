@@ -1,0 +1,35 @@
+-- `ffi_pack::put_clause_pack` meets its contract. Assumes nothing.
+use borrow.Author.Needs.{needs}
+use Rattle.fields.proofs.Theorems.{told-as}
+use Rattle.ffi_pack.specs.Packs.{clausePackLeaves}
+use Rattle.ffi_pack.proofs.put_clause_pack.Statement.{statement}
+use Rattle.ffi_pack.proofs.put_clause_pack.Tie as tie
+
+enum-known-answer : tie.Need-enum-known-answer
+enum-known-answer c = search needs
+
+put-fault-requires : tie.Need-put-fault-requires
+put-fault-requires c κs = search needs
+
+enum-known-answer-2 : tie.Need-enum-known-answer-2
+enum-known-answer-2 c = search needs
+
+put-count-requires : tie.Need-put-count-requires
+put-count-requires c κs = search needs
+
+returns : tie.Need-returns
+returns c = search (told-as clausePackLeaves, needs)
+
+returns-2 : tie.Need-returns-2
+returns-2 c = search (told-as clausePackLeaves, needs)
+
+pub put-clause-pack-spec : {M : Type 1} → statement M
+put-clause-pack-spec =
+    tie.close
+    (tie.spec
+    enum-known-answer
+    put-fault-requires
+    enum-known-answer-2
+    put-count-requires
+    returns
+    returns-2)
