@@ -1,3 +1,4 @@
 pub mod Room
 pub mod Nearer
 pub mod Window
+pub mod Given

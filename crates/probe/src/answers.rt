@@ -1,4 +1,5 @@
-// The calls, and their answers as lines.
+// The calls of the tokenizer and of the clause reader, and their answers as lines.
+use crate::output::Told;
 use crate::output::put;
 use crate::output::put_bits;
 use crate::output::put_bytes;
@@ -17,9 +18,9 @@ ghost use Prim.Native.Nat.{_≤_};
 ghost use Rattle.probe.specs.Room.{largestRoom};
 ghost use Rattle.probe.specs.Nearer.{Nearer};
 
-pub const LARGEST_ROOM: usize = 4096;
-// What the lent scratch holds before the call.
-const FILL: u8 = 165;
+const LARGEST_ROOM: usize = 4096;
+// What lent bytes hold before the call.
+pub const FILL: u8 = 165;
 // What the lent tree holds before the call.
 const TREE_FILL: u16 = 43690;
 
@@ -43,7 +44,7 @@ fn put_kind(out: &mut [u8], filled: usize, kind: Kind) -> usize {
     }
 }
 
-fn put_cursor(out: &mut [u8], filled: usize, cursor: Cursor) -> usize {
+pub(crate) fn put_cursor(out: &mut [u8], filled: usize, cursor: Cursor) -> usize {
     let with_offset = put_number(out, filled, cursor.offset as u64);
     let with_line = put_number(out, with_offset, cursor.line as u64);
     put_number(out, with_line, cursor.column as u64)
@@ -85,7 +86,7 @@ fn token_line(out: &mut [u8], filled: usize, token: Token, next: Cursor) -> usiz
     put(out, with_value, b'\n')
 }
 
-fn refused_line(out: &mut [u8], filled: usize, fault: Fault, cursor: Cursor) -> usize {
+pub(crate) fn refused_line(out: &mut [u8], filled: usize, fault: Fault, cursor: Cursor) -> usize {
     let named = put_bytes(out, filled, b"refused");
     let refusal = fault.refusal;
     let numbered = put_number(out, named, lexer::refusal_number(refusal) as u64);
@@ -247,8 +248,8 @@ fn clause_cases(out: &mut [u8], filled: usize, text: &[u8], cursor: Cursor, room
     }
 }
 
-// The answers to one case.
-pub(crate) fn answer(
+// The answers to one case whose room is admitted.
+fn answer(
     out: &mut [u8],
     filled: usize,
     call: u8,
@@ -267,4 +268,19 @@ pub(crate) fn answer(
         b'C' => clause_cases(out, filled, text, cursor, room),
         _ => filled,
     }
+}
+
+// The answers to one case of these calls.
+pub(crate) fn read_case(
+    out: &mut [u8],
+    filled: usize,
+    call: u8,
+    text: &[u8],
+    cursor: Cursor,
+    room: usize,
+) -> Told {
+    if room > LARGEST_ROOM {
+        return Told::Malformed;
+    }
+    Told::Filled(answer(out, filled, call, text, cursor, room))
 }

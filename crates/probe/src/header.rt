@@ -163,6 +163,9 @@ fn is_call(b: u8) -> bool {
         b'x' => true,
         b'c' => true,
         b'C' => true,
+        b'p' => true,
+        b'u' => true,
+        b'k' => true,
         _ => false,
     }
 }

@@ -4,24 +4,29 @@ mod answers;
 mod header;
 mod input;
 mod output;
+mod packs;
 
-use answers::LARGEST_ROOM;
-use answers::answer;
+use answers::read_case;
 use header::Header;
 use header::LARGEST_HEADER;
 use header::read_header;
 use input::INPUT;
 use input::Window;
 use input::refill;
+use lexer::Cursor;
 use output::OUTPUT;
+use output::Told;
 use output::flush;
 use output::put_bytes;
+use packs::nodes_case;
+use packs::pack_case;
+use packs::unpack_case;
 ghost use mathlib.Core.Path.{_≡_};
 ghost use Prim.Native.Nat.{_≤_};
 ghost use lib.ListN.{length};
 
 const LARGEST_LENGTH: usize = 70000;
-// A header, a text and its newline: what the input buffer has to hold at once.
+// A header, a body and its newline: what the input buffer has to hold at once.
 const LARGEST_CASE: usize = LARGEST_HEADER + LARGEST_LENGTH + 1;
 
 // How many bytes of input a case took (none, if it is malformed), and how far the output buffer is filled.
@@ -39,6 +44,23 @@ fn malformed(out: &mut [u8], filled: usize) -> Answered
     }
 }
 
+// The answers to one case. How much room a case may lend, its letter says.
+fn answer(
+    out: &mut [u8],
+    filled: usize,
+    call: u8,
+    body: &[u8],
+    cursor: Cursor,
+    room: usize,
+) -> Told {
+    match call {
+        b'p' => pack_case(out, filled, body, cursor, room),
+        b'u' => unpack_case(out, filled, body, room),
+        b'k' => nodes_case(out, filled, body, room),
+        _ => read_case(out, filled, call, body, cursor, room),
+    }
+}
+
 // Reads the case at the front of `input` and answers it.
 fn answer_case(out: &mut [u8], filled: usize, input: &[u8]) -> Answered
     ensures { λ r. ⌜ r .taken ≤ length (now (input .entry)) ⌝ }
@@ -53,16 +75,13 @@ fn answer_case(out: &mut [u8], filled: usize, input: &[u8]) -> Answered
     else {
         return malformed(out, filled);
     };
-    if room > LARGEST_ROOM {
-        return malformed(out, filled);
-    }
     if length > LARGEST_LENGTH {
         return malformed(out, filled);
     }
     if input.len() < start {
         return malformed(out, filled);
     }
-    // the text, and one byte behind it
+    // the body, and one byte behind it
     if input.len() - start <= length {
         return malformed(out, filled);
     }
@@ -70,9 +89,12 @@ fn answer_case(out: &mut [u8], filled: usize, input: &[u8]) -> Answered
     if input[end] != b'\n' {
         return malformed(out, filled);
     }
-    Answered {
-        taken: end + 1,
-        filled: answer(out, filled, call, &input[start..end], cursor, room),
+    match answer(out, filled, call, &input[start..end], cursor, room) {
+        Told::Filled(more) => Answered {
+            taken: end + 1,
+            filled: more,
+        },
+        Told::Malformed => malformed(out, filled),
     }
 }
 

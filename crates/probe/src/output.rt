@@ -5,6 +5,12 @@ ghost use Prim.Native.Nat.{_<_};
 
 pub const OUTPUT: usize = 65536;
 
+// What a case gave: how far the buffer is filled now; or it is malformed, and nothing was put.
+pub enum Told {
+    Filled(usize),
+    Malformed,
+}
+
 // Writes out what the buffer holds.
 pub(crate) fn flush(out: &[u8], filled: usize) {
     if filled <= out.len() {
@@ -94,6 +100,24 @@ pub(crate) fn put_numbers(out: &mut [u8], filled: usize, numbers: &[u16]) -> usi
     let mut i: usize = 0;
     while i < numbers.len() {
         now_filled = put_short(out, now_filled, numbers[i]);
+        i += 1;
+    }
+    now_filled
+}
+
+fn put_long(out: &mut [u8], filled: usize, n: u32) -> usize {
+    put_number(out, filled, n as u64)
+}
+
+// The same for numbers of 32 bits.
+pub(crate) fn put_longs(out: &mut [u8], filled: usize, numbers: &[u32]) -> usize {
+    if numbers.len() == 0 {
+        return put_bytes(out, filled, b" -");
+    }
+    let mut now_filled = filled;
+    let mut i: usize = 0;
+    while i < numbers.len() {
+        now_filled = put_long(out, now_filled, numbers[i]);
         i += 1;
     }
     now_filled
