@@ -1,12 +1,11 @@
 -- The C interface: what the clause function returns and leaves, from the clause call's answer. The fields are in `crates/fields/specs`. Definitions only.
 use Prim.Native.Nat.{ℕ}
-use mathlib.Core.Path.{_≡_}
 use mathlib.Core.List.{List}
 use lib.Seq.{sets}
 use Rattle.lexer.specs.declared.cursor.Cursor.{Cursor}
 use Rattle.reader.specs.Clause as Clause
 use Rattle.reader.specs.declared.clause.ClauseAnswer.{ClauseAnswer}
-use Rattle.fields.specs.Fields.{Outcome, leaves, countFields, refusedFields}
+use Rattle.fields.specs.Fields.{Outcome, leaves, countFields, refusedFields, Left}
 
 unfoldable pub clauseLeaves : ClauseAnswer → List ℕ → Outcome
 clauseLeaves (ClauseAnswer.Read n c) d = leaves 0 (sets d 0 (countFields n c))
@@ -14,7 +13,5 @@ clauseLeaves (ClauseAnswer.Refused w c) d = refusedFields w d
 
 -- the clause call at the cursor c of the text s: the tree slice d is left as x, the fields f as g, and r is returned. Two that are permitted coincide
 -- (proofs/Theorems)
-pub record ClauseLeft (s : List ℕ) (c : Cursor) (d x f g : List ℕ) (r : ℕ) : Type 0 where
-  pub answer : ClauseAnswer
-  pub permitted : Clause.Outcome s c d answer x
-  pub told : leaves r g ≡ clauseLeaves answer f
+abbrev pub ClauseLeft : List ℕ → Cursor → (d x f g : List ℕ) → ℕ → Type 0
+ClauseLeft s c d x f g r = Left (Clause.Outcome s c d) clauseLeaves x f g r
