@@ -159,7 +159,7 @@ static uint32_t some_spelling_length(struct random *random)
     return random_one_in(random, 60) ? PICK(random, longer) : (uint32_t)random_below(random, 6);
 }
 
-/* Of the trees before it a node takes some. Leaves are a quarter, a half or three quarters. */
+/* Of the trees before it a node takes some. Leaves are a quarter, a half, three quarters or all. */
 static size_t some_arity(struct random *random, size_t trees, size_t leaves)
 {
     static const size_t most = 4;
@@ -171,7 +171,7 @@ static size_t some_arity(struct random *random, size_t trees, size_t leaves)
 /* The last node takes all trees that are left. */
 static void make_tree(struct random *random, struct nodes *nodes)
 {
-    size_t trees = 0, leaves = 1 + random_below(random, 3);
+    size_t trees = 0, leaves = 1 + random_below(random, 4);
     nodes->count = some_count(random);
     for (size_t i = 0; i < nodes->count; i++) {
         size_t arity = i + 1 == nodes->count ? trees : some_arity(random, trees, leaves);

@@ -213,6 +213,16 @@ static void make_long_clause(struct random *random, struct text *text)
     add_word(text, "). ");
 }
 
+/* A clause of as many tokens and nodes as one may have, or a few less or more. */
+static void make_full_clause(struct random *random, struct text *text)
+{
+    enum { MOST_TOKENS = 1024 };
+    text->length = 0;
+    for (size_t more = MOST_TOKENS - 5 + random_below(random, 6); more > 0; more--)
+        add_word(text, "- ");
+    add_word(text, "a. ");
+}
+
 static void damage_once(struct random *random, struct text *text)
 {
     size_t at = random_below(random, text->length);
@@ -250,7 +260,7 @@ void make_text(struct random *random, struct text *text)
 {
     size_t length = some_length(random);
     if (random_one_in(random, 500)) {
-        make_long_clause(random, text);
+        (random_one_in(random, 3) ? make_full_clause : make_long_clause)(random, text);
         return;
     }
     if (random_one_in(random, 12))
