@@ -1,5 +1,7 @@
 //! Times this reader beside the Rust, in one run and over the same texts. See docs/PERFORMANCE.md.
 mod clock;
+#[cfg(packs)]
+mod coders;
 mod cut;
 #[cfg(packs)]
 mod packs;
