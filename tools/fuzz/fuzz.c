@@ -1,4 +1,4 @@
-/* Calls the archive with random texts, cursors and rooms, each call twice in two places, and looks at all that comes back. See tools/README.md.
+/* Calls the archive with random texts, packs, cursors and rooms, each call twice in two places, and looks at all that comes back. See tools/README.md.
  * usage: fuzz [--seconds N] [--seed N] [--round N] [--place N] FILE..    (FILEs of Prolog, parts of which are among the texts) */
 #include "images.h"
 #include "packs.h"

@@ -219,7 +219,8 @@ static void unpack(struct random *random, const struct text *image, size_t room,
     ask_twice(random, &due);
 }
 
-void try_image(struct random *random, const struct text *image)
+/* Unpacks an image into several rooms and packs its nodes again, then the nodes damaged. */
+static void try_image(struct random *random, const struct text *image)
 {
     static struct nodes nodes;
     bool is_pack = plain_unpack(image, &nodes);

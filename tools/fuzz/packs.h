@@ -2,13 +2,9 @@
 #ifndef FUZZ_PACKS_H
 #define FUZZ_PACKS_H
 
-#include "random.h"
 #include "texts.h"
 
 /* Some images and nodes; `packed` is a pack that pack_clause gave, or nothing. */
 void run_packs(struct random *random, const struct text *packed);
-
-/* Unpacks an image twice and packs its nodes again. */
-void try_image(struct random *random, const struct text *image);
 
 #endif
