@@ -3,10 +3,10 @@ use Prim.Native.Nat.{ℕ, zero, suc, _+_, _*_, _<_, _≤_}
 use mathlib.Core.List.{List, [], _∷_}
 use lib.ListN.{length, take, drop}
 use lib.Seq.{sets}
-use Rattle.pack.specs.Node.{Node, aNode, most, Acceptable}
-use Rattle.pack.specs.Image.{Form, form1, lineBytes, body, image, IsPack}
 use Rattle.lexer.specs.Refusal.{fault}
 use Rattle.lexer.specs.declared.refusal.Refusal.the-variants.{NoRoom, TooLong, NoPack}
+use Rattle.pack.specs.Node.{Node, aNode, most, Acceptable}
+use Rattle.pack.specs.Image.{Form, form1, lineBytes, body, image, IsPack}
 use Rattle.pack.specs.declared.answers.PackAnswer.{PackAnswer}
 use Rattle.pack.specs.declared.answers.UnpackAnswer.{UnpackAnswer}
 
@@ -18,14 +18,15 @@ pub data Names (bytes : List ℕ) : ℕ → List ℕ → List Node → Type 0 wh
 
 -- packing the nodes that the numbers name, in the form f, into the slice d
 pub data PackOutcome (f : Form) (bytes : List ℕ) (numbers : List ℕ) (count : ℕ) (d : List ℕ) : PackAnswer → List ℕ → Type 0 where
-  -- 14
+  -- 14: the numbers name no acceptable nodes
   notNodes : ((ns : List Node) → Names bytes count numbers ns → Acceptable ns → ⊥) → PackOutcome f bytes numbers count d (PackAnswer.Refused (fault NoPack 0)) d
-  -- 13
+  -- 13: the body passes 65,535 bytes
   tooLong : {ns : List Node} → Names bytes count numbers ns → Acceptable ns → most < length (body f ns) →
       PackOutcome f bytes numbers count d (PackAnswer.Refused (fault TooLong 0)) d
-  -- 9
+  -- 9: the slice is shorter than the image
   noRoom : {ns : List Node} → Names bytes count numbers ns → Acceptable ns → length (body f ns) ≤ most → length d < length (image f ns) →
       PackOutcome f bytes numbers count d (PackAnswer.Refused (fault NoRoom 0)) d
+  -- the image in front, and its length
   packed : {ns : List Node} → Names bytes count numbers ns → Acceptable ns → length (body f ns) ≤ most → length (image f ns) ≤ length d →
       PackOutcome f bytes numbers count d (PackAnswer.Packed (length (image f ns))) (sets d 0 (image f ns))
 
@@ -40,9 +41,10 @@ begins f = length (lineBytes f) + 5
 
 -- unpacking the image i into the slice d, for a reader of form 1
 pub data UnpackOutcome (i d : List ℕ) : UnpackAnswer → List ℕ → Type 0 where
-  -- 14
+  -- 14: the image is the pack of no nodes
   noPack : ((ns : List Node) → IsPack form1 i ns → ⊥) → UnpackOutcome i d (UnpackAnswer.Refused (fault NoPack 0)) d
-  -- 9
+  -- 9: the slice has no four numbers for each
   noRoom : {ns : List Node} → IsPack form1 i ns → length d < 4 * length ns → UnpackOutcome i d (UnpackAnswer.Refused (fault NoRoom 0)) d
+  -- four numbers of each in front, and how many nodes they are
   unpacked : {ns : List Node} → IsPack form1 i ns → 4 * length ns ≤ length d →
       UnpackOutcome i d (UnpackAnswer.Nodes (length ns)) (sets d 0 (parts (begins form1) ns))
