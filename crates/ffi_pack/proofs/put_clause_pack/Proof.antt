@@ -5,23 +5,26 @@ use Rattle.ffi_pack.specs.Packs.{clausePackLeaves}
 use Rattle.ffi_pack.proofs.put_clause_pack.Statement.{statement}
 use Rattle.ffi_pack.proofs.put_clause_pack.Tie as tie
 
-enum-known-answer : tie.Need-enum-known-answer
-enum-known-answer c = search needs
-
-put-fault-requires : tie.Need-put-fault-requires
-put-fault-requires c κs = search needs
-
-enum-known-answer-2 : tie.Need-enum-known-answer-2
-enum-known-answer-2 c = search needs
-
-put-count-requires : tie.Need-put-count-requires
-put-count-requires c κs = search needs
+ruleset ways = (needs)
 
 returns : tie.Need-returns
-returns c = search (told-as clausePackLeaves, needs)
+returns c = search (told-as clausePackLeaves, ways)
 
 returns-2 : tie.Need-returns-2
-returns-2 c = search (told-as clausePackLeaves, needs)
+returns-2 c = search (told-as clausePackLeaves, ways)
+
+-- answers
+enum-known-answer : tie.Need-enum-known-answer
+enum-known-answer c = search ways
+
+put-fault-requires : tie.Need-put-fault-requires
+put-fault-requires c κs = search ways
+
+enum-known-answer-2 : tie.Need-enum-known-answer-2
+enum-known-answer-2 c = search ways
+
+put-count-requires : tie.Need-put-count-requires
+put-count-requires c κs = search ways
 
 pub put-clause-pack-spec : {M : Type 1} → statement M
 put-clause-pack-spec =
