@@ -13,5 +13,6 @@ use Rattle.ffi.specs.Parts.{left, lineLeaves, textLeaves, LineLeft}
 pub text-coincides : (o : Text.Outcome) (f : List ℕ) (r r′ : ℕ) (x x′ g g′ : List ℕ) → left r x g ≡ textLeaves o f → left r′ x′ g′ ≡ textLeaves o f → (r ≡ r′) × (x ≡ x′) × (g ≡ g′)
 text-coincides o f r r′ x x′ g g′ p q = let e = p ∙ sym q in (cc, cc, cc)
 
-pub line-left-coincides : (s : List ℕ) (c : Cursor) (d f x x′ g g′ : List ℕ) (r r′ : ℕ) → LineLeft s c d x f g r → LineLeft s c d x′ f g′ r′ → (r ≡ r′) × (x ≡ x′) × (g ≡ g′)
-line-left-coincides s c d f x x′ g g′ r r′ p q = left-coincides (LineOutcome s c d) lineLeaves x x′ f g g′ r r′ p q (line-coincides s c d (p .permitted) (q .permitted))
+module _ (s : List ℕ) (c : Cursor) (d f x x′ g g′ : List ℕ) (r r′ : ℕ) where
+  pub line-left-coincides : LineLeft s c d x f g r → LineLeft s c d x′ f g′ r′ → (r ≡ r′) × (x ≡ x′) × (g ≡ g′)
+  line-left-coincides p q = left-coincides (LineOutcome s c d) lineLeaves x x′ f g g′ r r′ p q (line-coincides s c d (p .permitted) (q .permitted))

@@ -9,7 +9,8 @@ use Rattle.reader.specs.LineCall as LineCall
 use Rattle.reader.specs.declared.line_call.LineAnswer.{LineAnswer}
 use Rattle.fields.specs.Fields.{Outcome, leaves, countFields, refusedFields, answerTextLeaves, Left}
 
-unfoldable pub lineLeaves : LineAnswer → List ℕ → Outcome
+-- a listed clause: 0, the cursor behind it and the count of the line's bytes; or the refusal's number, and its offset
+abbrev pub lineLeaves : LineAnswer → List ℕ → Outcome
 lineLeaves (LineAnswer.Read n c) d = leaves 0 (sets d 0 (countFields n c))
 lineLeaves (LineAnswer.Refused w c) d = refusedFields w d
 

@@ -7,7 +7,8 @@ use Rattle.reader.specs.Clause as Clause
 use Rattle.reader.specs.declared.clause.ClauseAnswer.{ClauseAnswer}
 use Rattle.fields.specs.Fields.{Outcome, leaves, countFields, refusedFields, Left}
 
-unfoldable pub clauseLeaves : ClauseAnswer → List ℕ → Outcome
+-- a clause that was read: 0, the cursor behind it and the count of nodes; or the refusal's number, and its offset
+abbrev pub clauseLeaves : ClauseAnswer → List ℕ → Outcome
 clauseLeaves (ClauseAnswer.Read n c) d = leaves 0 (sets d 0 (countFields n c))
 clauseLeaves (ClauseAnswer.Refused w c) d = refusedFields w d
 

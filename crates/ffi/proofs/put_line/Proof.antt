@@ -1,10 +1,17 @@
 -- `ffi::put_line` meets its contract. Assumes nothing.
 use borrow.Author.Needs.{needs}
-use Rattle.ffi.proofs.Laws.{line-refused, line-read}
+use Rattle.fields.proofs.Theorems.{told-as}
+use Rattle.ffi.specs.Parts.{lineLeaves}
 use Rattle.ffi.proofs.put_line.Statement.{statement}
 use Rattle.ffi.proofs.put_line.Tie as tie
 
-ruleset ways = (line-refused, line-read, needs)
+ruleset ways = (needs)
+
+returns : tie.Need-returns
+returns c = search (told-as lineLeaves, ways)
+
+returns-2 : tie.Need-returns-2
+returns-2 c = search (told-as lineLeaves, ways)
 
 -- answers
 enum-known-answer : tie.Need-enum-known-answer
@@ -18,12 +25,6 @@ enum-known-answer-2 c = search ways
 
 put-count-requires : tie.Need-put-count-requires
 put-count-requires c κs = search ways
-
-returns : tie.Need-returns
-returns c = search ways
-
-returns-2 : tie.Need-returns-2
-returns-2 c = search ways
 
 pub put-line-spec : {M : Type 1} → statement M
 put-line-spec =

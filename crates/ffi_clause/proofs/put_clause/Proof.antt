@@ -1,10 +1,17 @@
 -- `ffi_clause::put_clause` meets its contract. Assumes nothing.
 use borrow.Author.Needs.{needs}
-use Rattle.ffi_clause.proofs.Laws.{clause-refused, clause-read}
+use Rattle.fields.proofs.Theorems.{told-as}
+use Rattle.ffi_clause.specs.Clauses.{clauseLeaves}
 use Rattle.ffi_clause.proofs.put_clause.Statement.{statement}
 use Rattle.ffi_clause.proofs.put_clause.Tie as tie
 
-ruleset ways = (clause-refused, clause-read, needs)
+ruleset ways = (needs)
+
+returns : tie.Need-returns
+returns c = search (told-as clauseLeaves, ways)
+
+returns-2 : tie.Need-returns-2
+returns-2 c = search (told-as clauseLeaves, ways)
 
 -- answers
 enum-known-answer : tie.Need-enum-known-answer
@@ -18,12 +25,6 @@ enum-known-answer-2 c = search ways
 
 put-count-requires : tie.Need-put-count-requires
 put-count-requires c κs = search ways
-
-returns : tie.Need-returns
-returns c = search ways
-
-returns-2 : tie.Need-returns-2
-returns-2 c = search ways
 
 pub put-clause-spec : {M : Type 1} → statement M
 put-clause-spec =
