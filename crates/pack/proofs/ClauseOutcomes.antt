@@ -1,12 +1,9 @@
 -- Of the pack of a clause one outcome is permitted, and there is one; what was packed is the pack of the clause's nodes. Assumes nothing.
-use Prim.Native.Nat.{ℕ, _+_, _*_, _<_, _≤_}
+use Prim.Native.Nat.{ℕ, _*_, _<_, _≤_}
 use mathlib.Core.Path.{_≡_, refl, sym, _∙_, ap, subst}
-use mathlib.Core.Bool.{Bool, true, false}
 use mathlib.Core.Logic.{_⊎_, inl, inr}
 use mathlib.Core.List.{List}
 use native.Mathlib.Omega.{arith}
-use borrow.Author.Tests.{leb-true, leb-false}
-use lib.Dec.{leb}
 use lib.ListN.{length, take, replicate, length-replicate}
 use lib.Seq.{sets}
 use Rattle.lexer.specs.declared.cursor.Cursor.{Cursor}
@@ -19,18 +16,22 @@ use Rattle.reader.specs.Tree.{Tree, numbers}
 use Rattle.reader.specs.Grammar.{Reads}
 use Rattle.reader.specs.Clause.{whole, Outcome}
 use Rattle.reader.specs.declared.clause.ClauseAnswer.{ClauseAnswer}
-use Rattle.reader.proofs.Theorems.{unambiguity, table-admitted, an-outcome, clause-coincides, room-suffices, clause-refused, clause-back, clause-front}
+use Rattle.reader.proofs.Theorems.{unambiguity, table-admitted, an-outcome, clause-coincides, room-suffices, clause-refused, clause-front}
 use Rattle.pack.specs.Node.{Node, most, mostNodes}
 use Rattle.pack.specs.Image.{Form, form1, line, body, image, longestImage, IsPack}
 use Rattle.pack.specs.Calls.{Names, UnpackOutcome}
+use Rattle.pack.specs.Passes.{Wrote}
 use Rattle.pack.specs.ClauseCall.{ClauseAt, ClausePack, clauseNodes, refused, tooLong, noRoom, packed}
+use Rattle.pack.specs.declared.answers.PackAnswer.{PackAnswer}
 use Rattle.pack.specs.declared.answers.ClausePackAnswer.{ClausePackAnswer}
 use Rattle.pack.specs.declared.answers.ClausePackAnswer.the-variants.{Packed, Refused}
 use Rattle.pack.specs.declared.answers.UnpackAnswer.{UnpackAnswer}
 use Rattle.pack.proofs.Basics.{sets-front}
 use Rattle.pack.proofs.Images.{image-length}
 use Rattle.pack.proofs.Trips.{left-name, unpacked-so}
+use Rattle.pack.proofs.Packs.{some-wrote}
 use Rattle.pack.proofs.Clauses.{clause-acceptable}
+use Rattle.pack.proofs.Clauses as K
 
 -- a tree slice with room for every clause
 roomy : List ℕ
@@ -93,20 +94,17 @@ module _ (s : List ℕ) (c : Cursor) where
     abbrev APack : Type 0
     APack = (r : ClausePackAnswer) × (x : List ℕ) × ClausePack f s c d r x
 
-    module _ {ts : List Token} {e : Cursor} {t : Tree} (o : ClauseAt s c ts e t) where
-      by-room : length (body f (clauseNodes s ts t)) ≤ most → (b : Bool) → leb (length (image f (clauseNodes s ts t))) (length d) ≡ b → APack
-      by-room l true h = (_, _, packed o l (leb-true (length (image f (clauseNodes s ts t))) (length d) h))
-      by-room l false h = (_, _, noRoom o l (leb-false (length (image f (clauseNodes s ts t))) (length d) h))
-
-      by-length : (b : Bool) → leb (length (body f (clauseNodes s ts t))) most ≡ b → APack
-      by-length true h = by-room (leb-true (length (body f (clauseNodes s ts t))) most h) (leb (length (image f (clauseNodes s ts t))) (length d)) refl
-      by-length false h = (_, _, tooLong o (leb-false (length (body f (clauseNodes s ts t))) most h))
+    by-nodes : (ts : List Token) (e : Cursor) (t : Tree) → ClauseAt s c ts e t → (r : PackAnswer) (x : List ℕ) → Wrote f (clauseNodes s ts t) d r x → APack
+    by-nodes ts e t o (PackAnswer.Refused q) x w = (_, _, K.clause-refused f s c d ts e t o w)
+    by-nodes ts e t o (PackAnswer.Packed n) x w = (_, _, K.clause-packed f s c d ts e t o w)
 
     by-answer : (a : ClauseAnswer) (x : List ℕ) → Outcome s c roomy a x → APack
     by-answer (ClauseAnswer.Refused w k) x h = (_, _, refused (clause-refused s c roomy (omega (arith, roomy-length)) w k _ x h refl))
     by-answer (ClauseAnswer.Read n e) x h =
         let r = clause-front s c roomy _ x n e h refl in
-        by-length (record { valid-cursor = r .valid-cursor; gathered = r .gathered; reads = r .reads }) (leb (length (body f (clauseNodes s (r .tokens) (r .tree)))) most) refl
+        let o : ClauseAt s c (r .tokens) e (r .tree) = record { valid-cursor = r .valid-cursor; gathered = r .gathered; reads = r .reads } in
+        let w = some-wrote f (clauseNodes s (r .tokens) (r .tree)) d in
+        by-nodes (r .tokens) e (r .tree) o (w .0) (w .1) (w .2)
 
     pub some-clause-pack : (r : ClausePackAnswer) × (x : List ℕ) × ClausePack f s c d r x
     some-clause-pack = let p = an-outcome s c roomy in by-answer (p .0) (p .1) (p .2)

@@ -1,13 +1,12 @@
--- The nodes of a clause: they are acceptable, and the numbers that the code makes of its tree name them. Assumes nothing.
-use Prim.Native.Nat.{ℕ, zero, suc, _+_, _-_, _*_, _/_, _%_, _<_, _≤_}
+-- The nodes of a clause: they are acceptable, and the code finds them in its tree. Assumes nothing.
+use Prim.Native.Nat.{ℕ, suc, _+_, _-_, _*_, _/_, _%_, _<_, _≤_}
 use mathlib.Core.Path.{_≡_, refl, sym, _∙_, ap, subst}
 use mathlib.Core.Bool.{Bool, true, false, cond}
 use mathlib.Core.List.{List, [], _∷_, _++_, append-assoc, append-nil}
 use native.Mathlib.Omega.{arith}
 use lib.Dec.{eqb}
 use lib.ListN.{length, getD, take, drop, length-append, length-drop, take-append-drop}
-use lib.Seq.{sets}
-use Rattle.lexer.specs.Cursor.{part, valid, longest}
+use Rattle.lexer.specs.Cursor.{part}
 use Rattle.lexer.specs.declared.cursor.Cursor.{Cursor}
 use Rattle.lexer.specs.declared.refusal.Fault.{Fault}
 use Rattle.lexer.proofs.Theorems.{is-valid}
@@ -15,21 +14,21 @@ use Rattle.reader.specs.Token.{Token}
 use Rattle.reader.specs.Ops.{operators}
 use Rattle.reader.specs.Tree.{NodeKind, plain, negative, call, prefix, infx, list, listTail, curly, emptyList, emptyCurly, kindNumber, Tree, node, Forest, nil, _◂_, arity, packed, numbers, numbersAll}
 use Rattle.reader.specs.Listing.{shapeOf, lastToken, tokenAt, Source, Within, root, WithinAll, none, more}
-use Rattle.reader.proofs.Theorems.{kind-and-arity, kind-number, clause-within, clause-numbers}
-use Rattle.pack.specs.Node.{Node, aNode, canHave, most, mostNodes, Fitting, Each, also, Acceptable}
+use Rattle.reader.proofs.Theorems.{kind-and-arity, kind-number, clause-numbers}
+use Rattle.pack.specs.Node.{Node, aNode, most, mostNodes, Fitting, Each, also, Acceptable}
 use Rattle.pack.specs.Node as N
-use Rattle.pack.specs.Image.{Form, body, image}
-use Rattle.pack.specs.Calls.{Names, next, PackOutcome}
-use Rattle.pack.specs.Calls as C
+use Rattle.pack.specs.Image.{nodeBytes, nodesBytes, Form}
 use Rattle.pack.specs.ClauseCall.{lastOf, packNode, packNodes, packAll, sourceOf, clauseNodes, ClauseAt, ClausePack}
 use Rattle.pack.specs.ClauseCall as L
-use Rattle.pack.specs.Numbering.{lastAt, fours, Lying}
-use Rattle.pack.specs.Numbering as M
+use Rattle.pack.specs.Passes.{Wrote, long, short, wrote}
+use Rattle.pack.specs.Walk.{lastAt, NodeAt, GivenNode, Lying, Walk, weight, nodesOf}
+use Rattle.pack.specs.Walk as M
+use Rattle.pack.specs.declared.nodes.Given.{Given}
 use Rattle.pack.specs.declared.answers.PackAnswer.{PackAnswer}
 use Rattle.pack.specs.declared.answers.ClausePackAnswer.{ClausePackAnswer}
 use Rattle.pack.proofs.Arities.{Shaped, shaped, ShapedAll, noTree, aTree, reads-shaped}
 use Rattle.pack.proofs.Basics.{part-length, drop-two}
-use Rattle.pack.proofs.Weights.{names-one}
+use Rattle.pack.proofs.Scans.{node-length}
 
 -- ---- how many nodes
 mutual
@@ -75,7 +74,7 @@ last-by : (b : Bool) (i : ℕ) → (i ≤ cond b (i + 1) i) × (cond b (i + 1) i
 last-by true i = (omega arith, omega arith)
 last-by false i = (omega arith, omega arith)
 
-pub last-late : (k i : ℕ) → i ≤ lastOf k i
+last-late : (k i : ℕ) → i ≤ lastOf k i
 unfolding lastOf kindNumber
 last-late k i = last-by (eqb k 1) i .0
 
@@ -178,43 +177,37 @@ module _ (tokens : ℕ) (w w′ : ℕ → ℕ → List ℕ) (f : (i j : ℕ) →
     all-same nil none = refl
     all-same (t ◂ h) (more u v) = cc (nodes-same t u, all-same h v)
 
--- ---- the numbers name the nodes, over the spans of the tokens
+-- ---- as the code finds the nodes, over the spans of the tokens
 abbrev pub spanned : List ℕ → List ℕ → List ℕ → ℕ → ℕ → List ℕ
 spanned s starts ends i j = part (getD starts i 0) (getD ends j 0) s
 
-module _ (s starts ends : List ℕ) (tokens : ℕ) (source : Source s starts ends tokens) where
-  inside : (i j : ℕ) → i ≤ j → j < tokens → getD starts i 0 + (getD ends j 0 - getD starts i 0) ≤ length s
-  inside i j l a = omega (arith, source .ordered i j l a, source .inside j a)
-
-  named : (i : ℕ) (k : NodeKind) (f : Forest) (m : ℕ) (ms : List ℕ) (ns : List Node) → lastToken (shapeOf k) i < tokens → arity f < 1024
-      → Names s m (fours starts ends m ms) ns
-      → Names s (suc m) (fours starts ends (suc m) (i ∷ packed k (arity f) ∷ ms)) (packNode (spanned s starts ends) k i (arity f) ∷ ns)
-  unfolding fours
-  named i k f m ms ns a b r =
-      let l = last-at k (arity f) i b in
-      let p = kind-number k (arity f) b in
-      let q = kind-and-arity k (arity f) b .1 in
-      rw (l, p, q) (next (inside i (lastOf (kindNumber k) i) (last-late (kindNumber k) i) (last-in k i a)) r)
+module _ (s starts ends : List ℕ) {tokens : ℕ} where
+  pub nodes-count : {n : ℕ} {ms : List ℕ} → Lying tokens n ms → length (nodesOf s starts ends n ms) ≡ n
+  unfolding nodesOf
+  nodes-count M.nothing = refl
+  nodes-count (M.also a w) = ap suc (nodes-count w)
 
   mutual
-    unfolding size numbers packNodes
+    unfolding size numbers packNodes nodesOf
 
-    pub names-tree : (t : Tree) → Within tokens t → (m n : ℕ) (ms : List ℕ) (ns : List Node) → n ≡ size t + m → Names s m (fours starts ends m ms) ns
-        → Names s n (fours starts ends n (numbers t ++ ms)) (packNodes (spanned s starts ends) t ++ ns)
-    names-tree (node i k f) (root a b w) m n ms ns e r =
-        let h =
-        names-all f w (suc m) n (i ∷ packed k (arity f) ∷ ms) (packNode (spanned s starts ends) k i (arity f) ∷ ns) (omega arith)
-        (named i k f m ms ns a b r) in
-        rw (node-split i k f ms, node-nodes (spanned s starts ends) i k f ns) h
+    pub nodes-tree : (t : Tree) → Within tokens t → (m n : ℕ) (ms : List ℕ) → n ≡ size t + m
+        → nodesOf s starts ends n (numbers t ++ ms) ≡ packNodes (spanned s starts ends) t ++ nodesOf s starts ends m ms
+    nodes-tree (node i k f) (root a b w) m n ms e =
+        let p = packed k (arity f) in
+        let h = nodes-all f w (suc m) n (i ∷ p ∷ ms) (omega arith) in
+        let q : nodesOf s starts ends (suc m) (i ∷ p ∷ ms) ≡ packNode (spanned s starts ends) k i (arity f) ∷ nodesOf s starts ends m ms =
+        cc (last-at k (arity f) i b, kind-number k (arity f) b, kind-and-arity k (arity f) b .1) in
+        ap (nodesOf s starts ends n) (node-split i k f ms) ∙ h ∙ ap (λ (l : List Node). packAll (spanned s starts ends) f ++ l) q
+        ∙ sym (node-nodes (spanned s starts ends) i k f (nodesOf s starts ends m ms))
 
-    names-all : (f : Forest) → WithinAll tokens f → (m n : ℕ) (ms : List ℕ) (ns : List Node) → n ≡ sizeAll f + m → Names s m (fours starts ends m ms) ns
-        → Names s n (fours starts ends n (numbersAll f ++ ms)) (packAll (spanned s starts ends) f ++ ns)
-    names-all nil none m n ms ns e r = let d : m ≡ n = omega arith in subst (λ (j : ℕ). Names s j (fours starts ends j ms) ns) d r
-    names-all (t ◂ f) (more v w) m n ms ns e r =
-        let h =
-        names-tree t v (sizeAll f + m) n (numbersAll f ++ ms) (packAll (spanned s starts ends) f ++ ns) (omega arith)
-        (names-all f w m (sizeAll f + m) ms ns refl r) in
-        rw (forest-split t f ms, forest-nodes (spanned s starts ends) t f ns) h
+    nodes-all : (f : Forest) → WithinAll tokens f → (m n : ℕ) (ms : List ℕ) → n ≡ sizeAll f + m
+        → nodesOf s starts ends n (numbersAll f ++ ms) ≡ packAll (spanned s starts ends) f ++ nodesOf s starts ends m ms
+    nodes-all nil none m n ms e = let d : n ≡ m = omega arith in ap (λ (j : ℕ). nodesOf s starts ends j ms) d
+    nodes-all (t ◂ f) (more v w) m n ms e =
+        ap (nodesOf s starts ends n) (forest-split t f ms)
+        ∙ nodes-tree t v (sizeAll f + m) n (numbersAll f ++ ms) (omega arith)
+        ∙ ap (λ (l : List Node). packNodes (spanned s starts ends) t ++ l) (nodes-all f w m (sizeAll f + m) ms refl)
+        ∙ sym (forest-nodes (spanned s starts ends) t f (nodesOf s starts ends m ms))
 
 -- ---- the nodes of a clause are acceptable, so 14 never arises
 part-short : (a e : ℕ) (s : List ℕ) → length (part a e s) ≤ length s
@@ -238,11 +231,11 @@ module _ (s : List ℕ) (c : Cursor) (ts : List Token) (e : Cursor) (t : Tree) (
       }
 
 -- ---- as the code goes through the tree
-pub record Here (tokens : ℕ) (ms : List ℕ) (at left : ℕ) : Type 0 where
-  pub both : at + 2 ≤ length ms
-  pub lies : lastAt (getD ms (at + 1) 0) (getD ms at 0) < tokens
-  pub early : getD ms at 0 ≤ lastAt (getD ms (at + 1) 0) (getD ms at 0)
-  pub rest : Lying tokens (left - 1) (drop (at + 2) ms)
+record Here (tokens : ℕ) (ms : List ℕ) (at left : ℕ) : Type 0 where
+  both : at + 2 ≤ length ms
+  lies : lastAt (getD ms (at + 1) 0) (getD ms at 0) < tokens
+  early : getD ms at 0 ≤ lastAt (getD ms (at + 1) 0) (getD ms at 0)
+  rest : Lying tokens (left - 1) (drop (at + 2) ms)
 
 here-at : {tokens n : ℕ} {l : List ℕ} (ms : List ℕ) (at left : ℕ) → Lying tokens n l → drop at ms ≡ l → left ≡ n → 0 < left → Here tokens ms at left
 here-at ms at left M.nothing e d h = absurd (omega arith)
@@ -260,55 +253,76 @@ here-at {tokens} ms at left (M.also {n = n} {i = i} {p = p} {ms = rest} a w) e d
       rest = subst (λ (k : ℕ). Lying tokens k (drop (at + 2) ms)) m (subst (Lying tokens n) r w);
     }
 
-pub here : {tokens : ℕ} (ms : List ℕ) (at left : ℕ) → 0 < left → Lying tokens left (drop at ms) → Here tokens ms at left
-here ms at left h w = here-at ms at left w refl refl h
+module _ (s starts ends : List ℕ) {tokens : ℕ} (source : Source s starts ends tokens) where
+  pub weight-is : {n : ℕ} {ms : List ℕ} → Lying tokens n ms → weight starts ends n ms ≡ length (nodesBytes (nodesOf s starts ends n ms))
+  unfolding weight nodesOf nodesBytes
+  weight-is M.nothing = refl
+  weight-is (M.also {n = n} {i = i} {p = p} {ms = ms} a w) =
+      let l = lastAt p i in
+      let x : getD starts i 0 + (getD ends l 0 - getD starts i 0) ≤ length s =
+      omega (arith, source .ordered i l (last-late (p / 1024) i) a, source .inside l a) in
+      let it = aNode (p / 1024) (p % 1024) (part (getD starts i 0) (getD ends l 0) s) in
+      omega
+      (arith, weight-is w, length-append (nodeBytes it) (nodesBytes (nodesOf s starts ends n ms)), node-length it, part-length (getD starts i 0) (getD ends l 0 - getD starts i 0) s x)
 
-pub fours-end : (starts ends : List ℕ) (left : ℕ) (ms : List ℕ) → left ≤ 0 → fours starts ends left ms ≡ []
-unfolding fours
-fours-end starts ends left ms h = let e : left ≡ 0 = omega arith in ap (λ (n : ℕ). fours starts ends n ms) e
+module _ (s ms : List ℕ) (at left : ℕ) (starts ends : List ℕ) (w : Walk s ms at left starts ends) where
+  module _ (h : left ≤ 0) where
+    none-left : left ≡ 0
+    none-left = omega arith
 
-pub fours-node : (starts ends ms : List ℕ) (at left : ℕ) → 0 < left → at + 2 ≤ length ms → fours starts ends left (drop at ms)
-    ≡ getD ms (at + 1) 0 / 1024 ∷ getD ms (at + 1) 0 % 1024 ∷ getD starts (getD ms at 0) 0
-    ∷ (getD ends (lastAt (getD ms (at + 1) 0) (getD ms at 0)) 0 - getD starts (getD ms at 0) 0)
-    ∷ fours starts ends (left - 1) (drop (at + 2) ms)
-unfolding fours
-fours-node starts ends ms at left h b =
-    let e : left ≡ suc (left - 1) = omega arith in
-    ap (λ (n : ℕ). fours starts ends n (drop at ms)) e ∙ ap (fours starts ends (suc (left - 1))) (drop-two ms at b)
+    pub weight-end : weight starts ends left (drop at ms) ≡ 0
+    unfolding weight
+    weight-end = ap (λ (n : ℕ). weight starts ends n (drop at ms)) none-left
 
--- ---- what packing the numbers leaves is what the clause's pack leaves
-pub asAnswer : Cursor → Cursor → PackAnswer → ClausePackAnswer
-asAnswer c e (PackAnswer.Packed n) = ClausePackAnswer.Packed n e
-asAnswer c e (PackAnswer.Refused q) = ClausePackAnswer.Refused q c
+    pub nodes-end : nodesOf s starts ends left (drop at ms) ≡ []
+    unfolding nodesOf
+    nodes-end = ap (λ (n : ℕ). nodesOf s starts ends n (drop at ms)) none-left
 
-pub names-more : {bytes : List ℕ} {n : ℕ} {xs : List ℕ} {ns : List Node} (ys : List ℕ) → Names bytes n xs ns → Names bytes n (xs ++ ys) ns
-names-more ys C.nothing = C.nothing
-names-more ys (next h r) = next h (names-more ys r)
+  module _ (h : 0 < left) where
+    here : Here (w .tokens) ms at left
+    here = here-at ms at left (w .lying) refl refl h
 
+    one-more : left ≡ suc (left - 1)
+    one-more = omega arith
+
+    pub node-at : NodeAt ms at starts ends
+    node-at =
+        let i = getD ms at 0 in
+        let l = lastAt (getD ms (at + 1) 0) i in
+        record {
+          both = here .both;
+          first = omega (arith, here .early, here .lies, w .source .started);
+          last = omega (arith, here .lies, w .source .ended);
+          ordered = omega (arith, w .source .ordered i l (here .early) (here .lies));
+        }
+
+    pub walk-on : Walk s ms (at + 2) (left - 1) starts ends
+    walk-on = record { tokens = w .tokens; source = w .source; lying = here .rest; near = omega (arith, w .near) }
+
+    module _ (r : Given) (g : GivenNode ms at starts ends r) where
+      pub node-inside : r .start + r .size ≤ length s
+      node-inside =
+          let l = lastAt (getD ms (at + 1) 0) (getD ms at 0) in
+          omega (arith, g .start-same, g .size-same, node-at .ordered, w .source .inside l (here .lies))
+
+      pub weight-node : weight starts ends left (drop at ms) ≡ 5 + r .size + weight starts ends (left - 1) (drop (at + 2) ms)
+      unfolding weight
+      weight-node =
+          ap (λ (n : ℕ). weight starts ends n (drop at ms)) one-more ∙ ap (weight starts ends (suc (left - 1))) (drop-two ms at (here .both))
+          ∙ cc (g .size-same)
+
+      pub nodes-node : nodesOf s starts ends left (drop at ms)
+          ≡ aNode (r .kind) (r .arity) (take (r .size) (drop (r .start) s)) ∷ nodesOf s starts ends (left - 1) (drop (at + 2) ms)
+      unfolding nodesOf
+      nodes-node =
+          ap (λ (n : ℕ). nodesOf s starts ends n (drop at ms)) one-more ∙ ap (nodesOf s starts ends (suc (left - 1))) (drop-two ms at (here .both))
+          ∙ cc (g .kind-same, g .arity-same, g .start-same, g .size-same)
+
+-- ---- what packing a clause's nodes leaves is what the clause's pack leaves
 module _ (f : Form) (s : List ℕ) (c : Cursor) (d : List ℕ) (ts : List Token) (e : Cursor) (t : Tree) (o : ClauseAt s c ts e t) where
-  pub clause-packed : {numbered : List ℕ} {n : ℕ} {x : PackAnswer} {d′ : List ℕ} → Names s n numbered (clauseNodes s ts t) → PackOutcome f s numbered n d x d′
-      → ClausePack f s c d (asAnswer c e x) d′
-  unfolding asAnswer
-  clause-packed w (C.notNodes k) = absurd (k (clauseNodes s ts t) w (clause-acceptable s c ts e t o))
-  clause-packed w (C.tooLong {ns = ns} y a l) = let q : ns ≡ clauseNodes s ts t = names-one y w in L.tooLong o (rw q at l)
-  clause-packed w (PackOutcome.noRoom {ns = ns} y a l m) =
-      let q : ns ≡ clauseNodes s ts t = names-one y w in L.noRoom o (rw q at l) (rw q at m)
-  clause-packed w (C.packed {ns = ns} y a l m) =
-      let q : ns ≡ clauseNodes s ts t = names-one y w in
-      subst (λ (z : List Node). ClausePack f s c d (ClausePackAnswer.Packed (length (image f z)) e) (sets d 0 (image f z))) (sym q)
-      (L.packed o (rw q at l) (rw q at m))
+  pub clause-refused : {q : Fault} {d′ : List ℕ} → Wrote f (clauseNodes s ts t) d (PackAnswer.Refused q) d′ → ClausePack f s c d (ClausePackAnswer.Refused q c) d′
+  clause-refused (long h) = L.tooLong o h
+  clause-refused (short l h) = L.noRoom o l h
 
-pub as-packed : (c e : Cursor) (r : PackAnswer) (n : ℕ) → r ≡ PackAnswer.Packed n → asAnswer c e r ≡ ClausePackAnswer.Packed n e
-unfolding asAnswer
-as-packed c e r n h = ap (asAnswer c e) h
-
-pub as-refused : (c e : Cursor) (r : PackAnswer) (q : Fault) → r ≡ PackAnswer.Refused q → asAnswer c e r ≡ ClausePackAnswer.Refused q c
-unfolding asAnswer
-as-refused c e r q h = ap (asAnswer c e) h
-
-pub fours-length : (starts ends : List ℕ) (n : ℕ) (ms : List ℕ) → length (fours starts ends n ms) ≤ 4 * n
-unfolding fours
-fours-length starts ends zero ms = omega arith
-fours-length starts ends (suc n) [] = omega arith
-fours-length starts ends (suc n) (i ∷ []) = omega arith
-fours-length starts ends (suc n) (i ∷ p ∷ ms) = omega (arith, fours-length starts ends n ms)
+  pub clause-packed : {n : ℕ} {d′ : List ℕ} → Wrote f (clauseNodes s ts t) d (PackAnswer.Packed n) d′ → ClausePack f s c d (ClausePackAnswer.Packed n e) d′
+  clause-packed (wrote l h) = L.packed o l h

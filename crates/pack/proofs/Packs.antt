@@ -1,39 +1,98 @@
 -- What packing leaves, once over the form. Assumes nothing.
-use Prim.Native.Nat.{ℕ, zero, suc, _+_, _-_, _*_, _<_, _≤_}
+use Prim.Native.Nat.{ℕ, _+_, _*_, _<_, _≤_}
 use mathlib.Core.Path.{_≡_, refl, sym, _∙_, ap, subst}
-use mathlib.Core.Bool.{true}
-use mathlib.Core.List.{List, [], _∷_, _++_, append-assoc}
+use mathlib.Core.Bool.{Bool, true, false}
+use mathlib.Core.List.{List, _∷_, _++_, append-assoc}
 use native.Mathlib.Omega.{arith}
+use lib.Dec.{leb}
 use lib.ListN.{length, length-append}
-use lib.Seq.{sets}
+use lib.Seq.{sets, length-sets}
+use borrow.Author.Tests.{leb-true, leb-false}
 use Rattle.pack.specs.Node.{Node, most, mostNodes, Acceptable}
 use Rattle.pack.specs.Image.{two, nodesBytes, Form, version, lineBytes, body, image}
-use Rattle.pack.specs.Calls.{begins, Names, PackOutcome, notNodes, tooLong, noRoom, packed}
-use Rattle.pack.specs.Passes.{weighed, laid, Weighs}
+use Rattle.pack.specs.Calls.{begins, PackOutcome, notNodes}
+use Rattle.pack.specs.Calls as C
+use Rattle.pack.specs.Passes.{weighed, Weighs, headBytes, PackBegun, tooLong, begun, Wrote, long, short, wrote}
 use Rattle.lexer.specs.Refusal.{fault}
-use Rattle.lexer.specs.declared.refusal.Refusal.the-variants.{NoRoom, TooLong, NoPack}
+use Rattle.lexer.specs.declared.refusal.Fault.{Fault}
+use Rattle.lexer.specs.declared.refusal.Refusal.the-variants.{NoPack}
 use Rattle.pack.specs.declared.answers.PackAnswer.{PackAnswer}
-use Rattle.pack.specs.declared.writing.Weighed.{Weighed}
-use Rattle.pack.specs.declared.writing.Weighed.the-variants.{Bytes, NoTree}
+use Rattle.pack.specs.declared.writing.Weighed.the-variants.{NoTree}
 use Rattle.pack.proofs.Basics.{sets-append}
-use Rattle.pack.proofs.Trees.{stacked, tree-stacked, Rooted, stacked-tree}
-use Rattle.pack.proofs.Images.{image-length, body-length}
-use Rattle.pack.proofs.Weights.{names-count, names-room, names-laid, Weigh, weigh-sound, weigh-complete}
+use Rattle.pack.proofs.Trees.{stacked, tree-stacked, stacked-tree}
+use Rattle.pack.proofs.Images.{image-length}
+use Rattle.pack.proofs.Weights.{names-count, names-room, Weigh, weigh-sound, weigh-complete}
 
--- what stands before the nodes, of a body of b bytes and n nodes
-abbrev pub headBytes : Form → ℕ → ℕ → List ℕ
-headBytes f b n = version f ∷ (two b ++ (lineBytes f ++ two n))
+-- ---- one outcome always
+module _ (f : Form) (ns : List Node) (d : List ℕ) where
+  abbrev Some : Type 0
+  Some = (r : PackAnswer) × (d′ : List ℕ) × Wrote f ns d r d′
 
-head-image : (f : Form) (ns : List Node) → headBytes f (length (body f ns)) (length ns) ++ nodesBytes ns ≡ image f ns
-unfolding image body
-head-image f ns = ap (λ (l : List ℕ). version f ∷ (two (length (body f ns)) ++ l)) (append-assoc (lineBytes f) (two (length ns)) (nodesBytes ns))
+  by-room : length (body f ns) ≤ most → (t : Bool) → leb (length (image f ns)) (length d) ≡ t → Some
+  by-room s true e = (_, _, wrote s (leb-true (length (image f ns)) (length d) e))
+  by-room s false e = (_, _, short s (leb-false (length (image f ns)) (length d) e))
+
+  by-length : (t : Bool) → leb (length (body f ns)) most ≡ t → Some
+  by-length true e = by-room (leb-true (length (body f ns)) most e) (leb (length (image f ns)) (length d)) refl
+  by-length false e = (_, _, long (leb-false (length (body f ns)) most e))
+
+  pub some-wrote : (r : PackAnswer) × (d′ : List ℕ) × Wrote f ns d r d′
+  some-wrote = by-length (leb (length (body f ns)) most) refl
+
+-- ---- as the code packs: what stands before the nodes, and then they
+
+-- there is room for them
+pub record Roomy (b : ℕ) (d : List ℕ) : Type 0 where
+  pub small : b ≤ most
+  pub fits : b + 3 ≤ length d
+
+roomy-so : {f : Form} {n b l : ℕ} {d d′ : List ℕ} → PackBegun f n b d (PackAnswer.Packed l) d′ → Roomy b d′
+roomy-so {f} {n} {b} {d = d} (begun s h) = record { small = s; fits = omega (arith, length-sets d 0 (headBytes f b n)) }
+
+module _ (f : Form) (ns : List Node) where
+  head-image : headBytes f (length (body f ns)) (length ns) ++ nodesBytes ns ≡ image f ns
+  unfolding image body
+  head-image = ap (λ (l : List ℕ). version f ∷ (two (length (body f ns)) ++ l)) (append-assoc (lineBytes f) (two (length ns)) (nodesBytes ns))
+
+  module _ (n b : ℕ) (c : length ns ≡ n) (e : length (body f ns) ≡ b) where
+    refused-so : {q : Fault} {d d′ : List ℕ} → PackBegun f n b d (PackAnswer.Refused q) d′ → Wrote f ns d (PackAnswer.Refused q) d′
+    refused-so (tooLong h) = long (omega (arith, e))
+    refused-so (PackBegun.noRoom s h) = short (omega (arith, e)) (omega (arith, e, image-length f ns))
+
+    written : (d d″ : List ℕ) → d″ ≡ sets (sets d 0 (headBytes f b n)) (begins f) (nodesBytes ns) → d″ ≡ sets d 0 (image f ns)
+    written d d″ y =
+        let l : 0 + length (headBytes f b n) ≡ begins f = omega (arith, length-append (lineBytes f) (two n)) in
+        let z : headBytes f b n ++ nodesBytes ns ≡ image f ns =
+        ap (λ (m : ℕ). headBytes f b m ++ nodesBytes ns) (sym c) ∙ ap (λ (m : ℕ). headBytes f m (length ns) ++ nodesBytes ns) (sym e) ∙ head-image in
+        y ∙ sym (sets-append d 0 (begins f) (headBytes f b n) (nodesBytes ns) l) ∙ ap (sets d 0) z
+
+    packed-so : {l : ℕ} {d d′ : List ℕ} (d″ : List ℕ) → PackBegun f n b d (PackAnswer.Packed l) d′ → d″ ≡ sets d′ (begins f) (nodesBytes ns) → Wrote f ns d (PackAnswer.Packed l) d″
+    packed-so {d = d} d″ (begun s h) y =
+        let k : length (image f ns) ≡ b + 3 = omega (arith, e, image-length f ns) in
+        let w : Wrote f ns d (PackAnswer.Packed (length (image f ns))) (sets d 0 (image f ns)) = wrote (omega (arith, e)) (omega (arith, k)) in
+        subst (Wrote f ns d (PackAnswer.Packed (b + 3))) (sym (written d d″ y))
+        (subst (λ (m : ℕ). Wrote f ns d (PackAnswer.Packed m) (sets d 0 (image f ns))) k w)
+
+    module _ (d d′ : List ℕ) (r : PackAnswer) (o : PackBegun f n b d r d′) where
+      told : (z : PackAnswer) → r ≡ z → PackBegun f n b d z d′
+      told z x = subst (λ (z : PackAnswer). PackBegun f n b d z d′) x o
+
+      pub begun-refused : (q : Fault) → r ≡ PackAnswer.Refused q → Wrote f ns d (PackAnswer.Refused q) d′
+      begun-refused q x = refused-so (told (PackAnswer.Refused q) x)
+
+      module _ (l : ℕ) (x : r ≡ PackAnswer.Packed l) where
+        pub begun-roomy : Roomy b d′
+        begun-roomy = roomy-so (told (PackAnswer.Packed l) x)
+
+        pub begun-packed : (d″ : List ℕ) → d″ ≡ sets d′ (begins f) (nodesBytes ns) → Wrote f ns d (PackAnswer.Packed l) d″
+        begun-packed d″ y = packed-so d″ (told (PackAnswer.Packed l) x) y
 
 -- ---- nodes that were weighed
-module _ (f : Form) (bytes numbers : List ℕ) (count size : ℕ) (w : Weighs bytes numbers count size) where
-  found : Weigh bytes count 0 0 numbers size
+module _ (bytes numbers : List ℕ) (count size : ℕ) (w : Weighs bytes numbers count size) where
+  pub found : Weigh bytes count 0 0 numbers size
   found = weigh-sound bytes count 0 0 numbers size (w .weighs)
 
-  counted : length (found .nodes) ≡ count
+  pub counted : length (found .nodes) ≡ count
   counted = names-count (found .names)
 
   accepted : Acceptable (found .nodes)
@@ -41,39 +100,10 @@ module _ (f : Form) (bytes numbers : List ℕ) (count size : ℕ) (w : Weighs by
       let r = stacked-tree (found .nodes) (found .stack) in
       record { few = omega (arith, counted, w .few); fitting = found .fitting; tree = r .tree; whole = r .whole }
 
-  body-size : (b : ℕ) → b ≡ length (lineBytes f) + 2 + size → length (body f (found .nodes)) ≡ b
-  body-size b e = omega (arith, e, body-length f (found .nodes), found .size)
-
-  module _ (b : ℕ) (e : b ≡ length (lineBytes f) + 2 + size) where
-    pub pack-long : (d : List ℕ) → most < b → PackOutcome f bytes numbers count d (PackAnswer.Refused (fault TooLong 0)) d
-    pack-long d h = tooLong (found .names) accepted (omega (arith, body-size b e))
-
-    module _ (s : b ≤ most) where
-      pub pack-short : (d : List ℕ) → length d < b + 3 → PackOutcome f bytes numbers count d (PackAnswer.Refused (fault NoRoom 0)) d
-      pack-short d h =
-          noRoom (found .names) accepted (omega (arith, body-size b e)) (omega (arith, body-size b e, image-length f (found .nodes)))
-
-      module _ (d d′ d″ : List ℕ) (h : b + 3 ≤ length d) (x : d′ ≡ sets d 0 (headBytes f b count)) (y : d″ ≡ sets d′ (begins f) (laid bytes count numbers)) where
-        written : d″ ≡ sets d 0 (image f (found .nodes))
-        written =
-            let l : 0 + length (headBytes f b count) ≡ begins f = omega (arith, length-append (lineBytes f) (two count)) in
-            let q : laid bytes count numbers ≡ nodesBytes (found .nodes) = names-laid (found .names) in
-            let z : headBytes f b count ++ laid bytes count numbers ≡ image f (found .nodes) =
-            ap (λ (k : List ℕ). headBytes f b count ++ k) q
-            ∙ ap (λ (n : ℕ). headBytes f b n ++ nodesBytes (found .nodes)) (sym counted)
-            ∙ ap (λ (n : ℕ). headBytes f n (length (found .nodes)) ++ nodesBytes (found .nodes)) (sym (body-size b e))
-            ∙ head-image f (found .nodes) in
-            y ∙ ap (λ (k : List ℕ). sets k (begins f) (laid bytes count numbers)) x
-            ∙ sym (sets-append d 0 (begins f) (headBytes f b count) (laid bytes count numbers) l)
-            ∙ ap (sets d 0) z
-
-        pub pack-done : PackOutcome f bytes numbers count d (PackAnswer.Packed (b + 3)) d″
-        pack-done =
-            let k : length (image f (found .nodes)) ≡ b + 3 = omega (arith, body-size b e, image-length f (found .nodes)) in
-            let o : PackOutcome f bytes numbers count d (PackAnswer.Packed (length (image f (found .nodes)))) (sets d 0 (image f (found .nodes))) =
-            packed (found .names) accepted (omega (arith, body-size b e)) (omega (arith, k)) in
-            subst (λ (l : List ℕ). PackOutcome f bytes numbers count d (PackAnswer.Packed (b + 3)) l) (sym written)
-            (subst (λ (n : ℕ). PackOutcome f bytes numbers count d (PackAnswer.Packed n) (sets d 0 (image f (found .nodes)))) k o)
+  pub pack-wrote : (f : Form) {d d′ : List ℕ} {r : PackAnswer} → Wrote f (found .nodes) d r d′ → PackOutcome f bytes numbers count d r d′
+  pack-wrote f (long h) = C.tooLong (found .names) accepted h
+  pack-wrote f (short s h) = PackOutcome.noRoom (found .names) accepted s h
+  pack-wrote f (wrote s h) = C.packed (found .names) accepted s h
 
 -- ---- and nodes that are none
 module _ (f : Form) (bytes numbers : List ℕ) (count : ℕ) (d : List ℕ) where

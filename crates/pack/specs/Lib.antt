@@ -3,4 +3,4 @@ pub mod Image
 pub mod Calls
 pub mod ClauseCall
 pub mod Passes
-pub mod Numbering
+pub mod Walk

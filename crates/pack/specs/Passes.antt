@@ -8,10 +8,11 @@ use lib.Dec.{eqb, leb}
 use lib.ListN.{length, getD, take, drop}
 use lib.Seq.{sets}
 use Rattle.pack.specs.Node.{Node, aNode, canHave, most, mostNodes}
-use Rattle.pack.specs.Image.{nodeBytes, Form, IsPack}
+use Rattle.pack.specs.Image.{two, nodeBytes, Form, version, lineBytes, body, image, IsPack}
 use Rattle.pack.specs.Calls.{parts, begins}
 use Rattle.lexer.specs.Refusal.{fault}
-use Rattle.lexer.specs.declared.refusal.Refusal.the-variants.{NoRoom}
+use Rattle.lexer.specs.declared.refusal.Refusal.the-variants.{NoRoom, TooLong}
+use Rattle.pack.specs.declared.answers.PackAnswer.{PackAnswer}
 use Rattle.pack.specs.declared.answers.UnpackAnswer.{UnpackAnswer}
 use Rattle.pack.specs.declared.reading.Head.{Head}
 use Rattle.pack.specs.declared.reading.Counted.{Counted}
@@ -220,3 +221,24 @@ pub record Weighs (bytes ns : List ℕ) (count size : ℕ) : Type 0 where
   pub weighs : weighed bytes count 0 0 ns ≡ Bytes size
   pub inside : 4 * count ≤ length ns
   pub few : count ≤ mostNodes
+
+-- as many nodes, and bytes of them, as a pack can be asked to hold
+pub record Light (count size : ℕ) : Type 0 where
+  pub few : count ≤ mostNodes
+  pub light : size ≤ mostNodes * (5 + most)
+
+-- what stands before the nodes, of a body of b bytes and n nodes
+abbrev pub headBytes : Form → ℕ → ℕ → List ℕ
+headBytes f b n = version f ∷ (two b ++ (lineBytes f ++ two n))
+
+-- the tests for 13 and 9, and what stands before the nodes
+pub data PackBegun (f : Form) (n b : ℕ) (d : List ℕ) : PackAnswer → List ℕ → Type 0 where
+  tooLong : most < b → PackBegun f n b d (PackAnswer.Refused (fault TooLong 0)) d
+  noRoom : b ≤ most → length d < b + 3 → PackBegun f n b d (PackAnswer.Refused (fault NoRoom 0)) d
+  begun : b ≤ most → b + 3 ≤ length d → PackBegun f n b d (PackAnswer.Packed (b + 3)) (sets d 0 (headBytes f b n))
+
+-- what packing these nodes leaves, whatever they came from
+pub data Wrote (f : Form) (ns : List Node) (d : List ℕ) : PackAnswer → List ℕ → Type 0 where
+  long : most < length (body f ns) → Wrote f ns d (PackAnswer.Refused (fault TooLong 0)) d
+  short : length (body f ns) ≤ most → length d < length (image f ns) → Wrote f ns d (PackAnswer.Refused (fault NoRoom 0)) d
+  wrote : length (body f ns) ≤ most → length (image f ns) ≤ length d → Wrote f ns d (PackAnswer.Packed (length (image f ns))) (sets d 0 (image f ns))

@@ -1,13 +1,13 @@
 // A clause, from its text, as a pack.
 use crate::answers::ClausePackAnswer;
 use crate::answers::PackAnswer;
-use crate::format::NUMBERS;
+use crate::format::FRONT;
 use crate::kinds::KIND_UNIT;
 use crate::kinds::NEGATIVE;
 use crate::nodes::Given;
-use crate::nodes::put_given;
 use crate::widths::of_half;
-use crate::writing::pack_nodes;
+use crate::writing::begin_pack;
+use crate::writing::put_node;
 use lexer::Cursor;
 use reader::ClauseAnswer;
 use reader::read_clause;
@@ -18,8 +18,9 @@ ghost use lib.ListN.{length};
 ghost use lib.Seq.{sets};
 ghost use Rattle.reader.specs.LineCall.{ReadTree};
 ghost use Rattle.pack.specs.ClauseCall.{lastOf, ClausePack};
-ghost use Rattle.pack.specs.Image.{form1};
-ghost use Rattle.pack.specs.Numbering.{NodeAt, GivenNode, fours, Numbering};
+ghost use Rattle.pack.specs.Image.{nodesBytes, form1};
+ghost use Rattle.pack.specs.Passes.{Wrote};
+ghost use Rattle.pack.specs.Walk.{NodeAt, GivenNode, Walk, SomeWalk, TreeWeighs, nodesOf, PutTree};
 
 // The last token of a node's spelling: a negative number runs on to the number.
 fn last_of(kind: usize, token: usize) -> usize
@@ -49,20 +50,67 @@ fn given_node(tree: &[u16], at: usize, starts: &[u16], ends: &[u16]) -> Given
     }
 }
 
-// The four numbers of each node.
-fn number_nodes(tree: &[u16], count: usize, starts: &[u16], ends: &[u16], numbers: &mut [u32])
-    requires { ⌜ Numbering (now tree) count (now starts) (now ends) (length (now numbers)) ⌝ }
-    ensures { λ r. ⌜ now (numbers .exit) ≡ sets (now (numbers .entry)) 0 (fours (now (starts .entry)) (now (ends .entry)) count (now (tree .entry))) ⌝ }
+// The bytes that the nodes take. There is nothing to test: a clause's nodes are acceptable.
+fn weigh_tree(tree: &[u16], count: usize, starts: &[u16], ends: &[u16]) -> usize
+    requires { ⌜ SomeWalk (now tree) count (now starts) (now ends) ⌝ }
+    ensures { λ r. ⌜ TreeWeighs (now (tree .entry)) count (now (starts .entry)) (now (ends .entry)) r ⌝ }
 {
     let mut left = count;
     let mut at: usize = 0;
-    let mut place: usize = 0;
+    let mut size: usize = 0;
     while 0 < left {
         let it = given_node(tree, at, starts, ends);
-        put_given(it, numbers, place);
+        size = size + FRONT + it.size;
         at += 2;
-        place += NUMBERS;
         left -= 1;
+    }
+    size
+}
+
+// The nodes, one behind the other.
+fn put_tree(
+    text: &[u8],
+    tree: &[u16],
+    count: usize,
+    starts: &[u16],
+    ends: &[u16],
+    out: &mut [u8],
+    from: usize,
+)
+    requires { ⌜ PutTree (now text) (now tree) count (now starts) (now ends) (length (now out)) from ⌝ }
+    ensures { λ r. ⌜ now (out .exit) ≡ sets (now (out .entry)) from (nodesBytes (nodesOf (now (text .entry)) (now (starts .entry)) (now (ends .entry)) count (now (tree .entry)))) ⌝ }
+{
+    let mut left = count;
+    let mut at: usize = 0;
+    let mut place = from;
+    while 0 < left {
+        let it = given_node(tree, at, starts, ends);
+        put_node(text, it, out, place);
+        place = place + FRONT + it.size;
+        at += 2;
+        left -= 1;
+    }
+}
+
+// The pack of a clause's tree, if it fits.
+fn pack_tree(
+    text: &[u8],
+    tree: &[u16],
+    count: usize,
+    starts: &[u16],
+    ends: &[u16],
+    out: &mut [u8],
+) -> PackAnswer
+    requires { ⌜ Walk (now text) (now tree) 0 count (now starts) (now ends) ⌝ }
+    ensures { λ r. ⌜ Wrote form1 (nodesOf (now (text .entry)) (now (starts .entry)) (now (ends .entry)) count (now (tree .entry))) (now (out .entry)) r (now (out .exit)) ⌝ }
+{
+    let size = weigh_tree(tree, count, starts, ends);
+    match begin_pack(count, size, out) {
+        PackAnswer::Refused(fault) => PackAnswer::Refused(fault),
+        PackAnswer::Packed(length) => {
+            put_tree(text, tree, count, starts, ends, out, FRONT);
+            PackAnswer::Packed(length)
+        }
     }
 }
 
@@ -81,9 +129,7 @@ fn pack_read(
     let mut starts = [0u16; 1024];
     let mut ends = [0u16; 1024];
     span_tokens(text, cursor, &mut starts, &mut ends);
-    let mut numbers = [0u32; 4096];
-    number_nodes(tree, nodes, &starts, &ends, &mut numbers);
-    match pack_nodes(text, &numbers, nodes, out) {
+    match pack_tree(text, tree, nodes, &starts, &ends, out) {
         PackAnswer::Packed(length) => ClausePackAnswer::Packed { length, next },
         PackAnswer::Refused(fault) => ClausePackAnswer::Refused { fault, cursor },
     }

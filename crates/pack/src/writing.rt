@@ -16,6 +16,7 @@ use crate::kinds::can_have;
 use crate::nodes::Given;
 use crate::nodes::given_at;
 use crate::widths::to_byte;
+ghost use Prim.Native.Nat.{_+_};
 ghost use mathlib.Core.Path.{_≡_};
 ghost use mathlib.Core.List.{_∷_, _++_};
 ghost use lib.ListN.{length, take, drop};
@@ -23,7 +24,7 @@ ghost use lib.Seq.{sets};
 ghost use Rattle.pack.specs.Node.{aNode};
 ghost use Rattle.pack.specs.Image.{two, form1, nodeBytes};
 ghost use Rattle.pack.specs.Calls.{PackOutcome};
-ghost use Rattle.pack.specs.Passes.{weighed, Weighing, PutWord, PutFront, PutPart, PutNode, laid, PutNodes, Weighs};
+ghost use Rattle.pack.specs.Passes.{weighed, Weighing, PutWord, PutFront, PutPart, PutNode, laid, PutNodes, Weighs, Light, PackBegun};
 
 // How many bytes the nodes take in an image, or they are no tree that unpacking would accept.
 pub enum Weighed {
@@ -103,7 +104,7 @@ pub(crate) fn put_front(out: &mut [u8], at: usize, kind: usize, arity: usize, si
 }
 
 // A node with its spelling.
-fn put_node(bytes: &[u8], it: Given, out: &mut [u8], at: usize)
+pub(crate) fn put_node(bytes: &[u8], it: Given, out: &mut [u8], at: usize)
     requires { ⌜ PutNode (length (now bytes)) it (length (now out)) at ⌝ }
     ensures { λ r. ⌜ now (out .exit) ≡ sets (now (out .entry)) at (nodeBytes (aNode (it .kind) (it .arity) (take (it .size) (drop (it .start) (now (bytes .entry)))))) ⌝ }
 {
@@ -128,10 +129,10 @@ fn put_nodes(bytes: &[u8], nodes: &[u32], count: usize, out: &mut [u8], from: us
     }
 }
 
-// The pack of nodes that were weighed, if it fits.
-fn write_pack(bytes: &[u8], nodes: &[u32], count: usize, size: usize, out: &mut [u8]) -> PackAnswer
-    requires { ⌜ Weighs (now bytes) (now nodes) count size ⌝ }
-    ensures { λ r. ⌜ PackOutcome form1 (now (bytes .entry)) (now (nodes .entry)) count (now (out .entry)) r (now (out .exit)) ⌝ }
+// What stands before the nodes of a pack that fits, or why it is refused; `size` is what the nodes take.
+pub(crate) fn begin_pack(count: usize, size: usize, out: &mut [u8]) -> PackAnswer
+    requires { ⌜ Light count size ⌝ }
+    ensures { λ r. ⌜ PackBegun form1 count (size + 2) (now (out .entry)) r (now (out .exit)) ⌝ }
 {
     let body = size + COUNT;
     if LONGEST_BODY < body {
@@ -141,8 +142,21 @@ fn write_pack(bytes: &[u8], nodes: &[u32], count: usize, size: usize, out: &mut 
         return PackAnswer::Refused(NO_ROOM);
     }
     put_front(out, 0, FORM_1, body, count);
-    put_nodes(bytes, nodes, count, out, FRONT);
     PackAnswer::Packed(body + BODY_AT)
+}
+
+// The pack of nodes that were weighed, if it fits.
+fn write_pack(bytes: &[u8], nodes: &[u32], count: usize, size: usize, out: &mut [u8]) -> PackAnswer
+    requires { ⌜ Weighs (now bytes) (now nodes) count size ⌝ }
+    ensures { λ r. ⌜ PackOutcome form1 (now (bytes .entry)) (now (nodes .entry)) count (now (out .entry)) r (now (out .exit)) ⌝ }
+{
+    match begin_pack(count, size, out) {
+        PackAnswer::Refused(fault) => PackAnswer::Refused(fault),
+        PackAnswer::Packed(length) => {
+            put_nodes(bytes, nodes, count, out, FRONT);
+            PackAnswer::Packed(length)
+        }
+    }
 }
 
 // The pack, in form 1, of the nodes that the numbers name: four each, with the spelling as a part of the bytes.

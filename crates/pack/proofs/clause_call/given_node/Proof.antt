@@ -1,17 +1,15 @@
 -- `pack::clause_call::given_node` meets its contract. Assumes nothing.
 use Prim.Native.Nat.{ℕ, _+_, _-_, _*_, _/_, _%_, _<_, _≤_}
-use mathlib.Core.Path.{_≡_, sym, _∙_, ap}
+use mathlib.Core.Path.{_≡_, _∙_, ap}
 use mathlib.Core.List.{List}
 use native.Mathlib.Omega.{arith}
 use borrow.Author.Needs.{needs}
 use mir.Syntax.{w64}
 use mir.Val.{Fits}
 use lib.ListN.{length, getD}
-use Rattle.pack.specs.Node.{most}
 use Rattle.pack.specs.ClauseCall.{lastOf}
-use Rattle.pack.specs.Numbering.{lastAt, NodeAt, GivenNode}
+use Rattle.pack.specs.Walk.{lastAt, NodeAt, GivenNode}
 use Rattle.pack.specs.Passes.{mostHalf, Widened}
-use Rattle.pack.specs.declared.nodes.Given.{Given}
 use Rattle.pack.proofs.Clauses.{last-near}
 use Rattle.pack.proofs.clause_call.given_node.Statement.{statement}
 use Rattle.pack.proofs.clause_call.given_node.Tie as tie
@@ -56,7 +54,6 @@ module _ (ms : List ℕ) (at : ℕ) (starts ends : List ℕ) (h : NodeAt ms at s
               size-same = ap (λ (n : ℕ). n - st) end-is ∙ ap (λ (n : ℕ). getD ends (lastAt (getD ms (at + 1) 0) (getD ms at 0)) 0 - n) start-is;
               kind-small = omega (arith, b .below);
               arity-small = omega (arith, b .below);
-              start-small = x .below;
               size-small = omega (arith, y .below);
             }
 

@@ -1,112 +1,99 @@
 -- `pack::writing::write_pack` meets its contract. Assumes nothing.
-use Prim.Native.Nat.{ℕ, _+_, _*_, _<_, _≤_}
+use Prim.Native.Nat.{ℕ, _+_}
 use mathlib.Core.Path.{_≡_, ap, _∙_}
-use mathlib.Core.List.{List, _∷_, _++_}
+use mathlib.Core.List.{List}
 use native.Mathlib.Omega.{arith}
 use borrow.Author.Needs.{needs}
 use lib.ListN.{length}
-use lib.Seq.{sets, length-sets}
-use mir.Syntax.{w64}
-use mir.Val.{Fits}
-use Rattle.pack.specs.Node.{most}
-use Rattle.pack.specs.Image.{two, form1, version, lineBytes}
+use lib.Seq.{sets}
+use Rattle.pack.specs.Node.{Node}
+use Rattle.pack.specs.Image.{form1, lineBytes, body}
 use Rattle.pack.specs.Calls.{PackOutcome}
-use Rattle.pack.specs.Passes.{laid, PutFront, PutNodes, Weighs}
-use Rattle.lexer.specs.Refusal.{fault}
-use Rattle.lexer.specs.declared.refusal.Refusal.the-variants.{NoRoom, TooLong}
+use Rattle.pack.specs.Passes.{laid, PutNodes, Weighs, Light, PackBegun}
+use Rattle.lexer.specs.declared.refusal.Fault.{Fault}
 use Rattle.pack.specs.declared.answers.PackAnswer.{PackAnswer}
-use Rattle.pack.proofs.Weights.{weight-light}
-use Rattle.pack.proofs.Packs.{pack-long, pack-short, pack-done}
+use Rattle.pack.proofs.Images.{body-length}
+use Rattle.pack.proofs.Weights.{weight-light, names-laid}
+use Rattle.pack.proofs.Packs.{begun-refused, begun-packed, begun-roomy, found, counted, pack-wrote}
 use Rattle.pack.proofs.writing.write_pack.Statement.{statement}
 use Rattle.pack.proofs.writing.write_pack.Tie as tie
 
 module _ (bytes ns : List ℕ) (count size : ℕ) (w : Weighs bytes ns count size) where
-  light : size ≤ count * 65540
-  light = weight-light bytes count ns size (w .weighs)
+  light : Light count size
+  light = record { few = w .few; light = omega (arith, weight-light bytes count ns size (w .weighs), w .few) }
 
-  body-fits : Fits w64 (size + 2)
-  body-fits = record { fits = omega (arith, light, w .few) }
+  abbrev nodes : List Node
+  nodes = found bytes ns count size w .nodes
 
-  whole : size + 2 ≡ length (lineBytes form1) + 2 + size
+  count-is : length nodes ≡ count
+  count-is = counted bytes ns count size w
+
+  body-is : length (body form1 nodes) ≡ size + 2
   unfolding lineBytes
-  whole = omega arith
+  body-is = omega (arith, body-length form1 nodes, found bytes ns count size w .size)
 
-  long : (d : List ℕ) → 65535 < size + 2 → PackOutcome form1 bytes ns count d (PackAnswer.Refused (fault TooLong 0)) d
-  long d h = pack-long form1 bytes ns count size w (size + 2) whole d h
+  module _ (d d′ : List ℕ) (r : PackAnswer) (o : PackBegun form1 count (size + 2) d r d′) where
+    refused : (q : Fault) → r ≡ PackAnswer.Refused q → PackOutcome form1 bytes ns count d (PackAnswer.Refused q) d′
+    refused q x = pack-wrote bytes ns count size w form1 (begun-refused form1 nodes count (size + 2) count-is body-is d d′ r o q x)
 
-  module _ (s : size + 2 ≤ 65535) where
-    short : (d : List ℕ) → length d < size + 2 + 3 → PackOutcome form1 bytes ns count d (PackAnswer.Refused (fault NoRoom 0)) d
-    short d h = pack-short form1 bytes ns count size w (size + 2) whole s d h
+    module _ (l : ℕ) (x : r ≡ PackAnswer.Packed l) where
+      nodes-asked : PutNodes bytes ns count (length d′) 5
+      nodes-asked =
+          let m = begun-roomy form1 nodes count (size + 2) count-is body-is d d′ r o l x in
+          record {
+            trees = 0;
+            before = 0;
+            all = size;
+            weighs = w .weighs;
+            few = omega (arith, w .few);
+            inside = w .inside;
+            fits = omega (arith, m .fits);
+            small = omega (arith, m .small);
+          }
 
-    module _ (d : List ℕ) (h : size + 2 + 3 ≤ length d) where
-      front-asked : PutFront (length d) 0 1 (size + 2) count
-      front-asked = record { inside = omega arith; kind-small = omega arith; arity-small = s; size-small = omega (arith, w .few) }
+      packed : (d″ : List ℕ) → d″ ≡ sets d′ 5 (laid bytes count ns) → PackOutcome form1 bytes ns count d (PackAnswer.Packed l) d″
+      unfolding lineBytes
+      packed d″ y =
+          pack-wrote bytes ns count size w form1
+          (begun-packed form1 nodes count (size + 2) count-is body-is d d′ r o l x d″
+          (y ∙ ap (sets d′ 5) (names-laid (found bytes ns count size w .names))))
 
-      module _ (d′ : List ℕ) (x : d′ ≡ sets d 0 (1 ∷ (two (size + 2) ++ two count))) where
-        kept : length d′ ≡ length d
-        kept = ap length x ∙ length-sets d 0 (1 ∷ (two (size + 2) ++ two count))
-
-        nodes-asked : PutNodes bytes ns count (length d′) 5
-        nodes-asked =
-            record {
-              trees = 0;
-              before = 0;
-              all = size;
-              weighs = w .weighs;
-              few = omega (arith, w .few);
-              inside = w .inside;
-              fits = omega (arith, kept);
-              small = omega arith;
-            }
-
-        module _ (d″ : List ℕ) (y : d″ ≡ sets d′ 5 (laid bytes count ns)) where
-          kept-again : length d″ ≡ length d
-          kept-again = ap length y ∙ length-sets d′ 5 (laid bytes count ns) ∙ kept
-
-          done : PackOutcome form1 bytes ns count d (PackAnswer.Packed (size + 2 + 3)) d″
-          unfolding lineBytes version
-          done = pack-done form1 bytes ns count size w (size + 2) whole s d d′ d″ h x y
-
-ruleset ways = (body-fits, long, short, front-asked, nodes-asked, kept-again, done, needs)
+ruleset ways = (light, refused, nodes-asked, packed, needs)
 
 -- answers
-add-body : tie.Need-add-body
-add-body c = search ways
+begin-pack-requires : tie.Need-begin-pack-requires
+begin-pack-requires c κs = search ways
 
-returns : tie.Need-returns
-returns c = search ways
+enum-known-fault : tie.Need-enum-known-fault
+enum-known-fault c = search ways
 
-add-if2 : tie.Need-add-if2
-add-if2 c = search ways
-
-returns-2 : tie.Need-returns-2
-returns-2 c = search ways
-
-put-front-requires : tie.Need-put-front-requires
-put-front-requires c κs = search ways
+enum-known-length : tie.Need-enum-known-length
+enum-known-length c = search ways
 
 put-nodes-requires : tie.Need-put-nodes-requires
 put-nodes-requires c κs = search ways
 
-add-t10 : tie.Need-add-t10
-add-t10 c = search ways
-
 same-length : tie.Need-same-length
 same-length c = search ways
 
-returns-3 : tie.Need-returns-3
-returns-3 c = search ways
+returns : tie.Need-returns
+returns c = search ways
+
+same-length-2 : tie.Need-same-length-2
+same-length-2 c = search ways
+
+returns-2 : tie.Need-returns-2
+returns-2 c = search ways
 
 pub write-pack-spec : {M : Type 1} → statement M
 write-pack-spec =
     tie.close
     (tie.spec
-    add-body
-    returns
-    add-if2
-    returns-2
-    put-front-requires
+    begin-pack-requires
+    enum-known-fault
+    enum-known-length
     put-nodes-requires
-    add-t10
     same-length
-    returns-3)
+    returns
+    same-length-2
+    returns-2)
