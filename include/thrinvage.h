@@ -170,7 +170,7 @@ uint32_t thrinvage_read_clause(const uint8_t *text, size_t length, size_t offset
 /* The same clause as one line of the listing, at the front of `out`, which has `room` bytes. No newline is put behind it, and none stands in it but
  * where a quoted item of the source has one behind a backslash.
  * It calls itself for a term within a term, some 370 bytes of stack a level: up to 385 KB were measured, at the 1,022 levels that a clause can have. The
- * other functions take 15 KB at most, whatever they read (docs/FOOTPRINT.md). */
+ * other functions take 19 KB at most, whatever they read (docs/FOOTPRINT.md). */
 uint32_t thrinvage_list_clause(const uint8_t *text, size_t length, size_t offset, size_t line, size_t column, uint8_t *out, size_t room,
                                struct thrinvage_clause *clause);
 
