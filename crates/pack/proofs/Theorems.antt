@@ -1,6 +1,6 @@
 -- What is proved of packs: of the format, over the form; of the calls on nodes and images; of a clause. Statements only: each cites its proof. Assumes
 -- nothing.
-use Prim.Native.Nat.{ℕ, _+_, _*_, _<_, _≤_}
+use Prim.Native.Nat.{ℕ, _*_, _<_, _≤_}
 use mathlib.Core.Path.{_≡_, sym, _∙_}
 use mathlib.Core.Bool.{true}
 use mathlib.Core.Logic.{_⊎_}

@@ -1,6 +1,6 @@
 -- `pack::clause_call::put_tree` meets its contract. The invariant: what is to be stored from the start is what is to be stored from here.
 -- Assumes nothing.
-use Prim.Native.Nat.{ℕ, _+_, _-_, _*_, _<_, _≤_}
+use Prim.Native.Nat.{ℕ, _+_, _-_, _<_, _≤_}
 use mathlib.Core.Path.{_≡_, refl, sym, _∙_, ap}
 use mathlib.Core.List.{List}
 use native.Mathlib.Omega.{arith}
@@ -9,7 +9,7 @@ use mir.Syntax.{w64}
 use mir.Val.{Fits}
 use lib.ListN.{length, take, drop}
 use lib.Seq.{sets, length-sets}
-use Rattle.pack.specs.Node.{Node, aNode, most, mostNodes}
+use Rattle.pack.specs.Node.{Node, aNode, most}
 use Rattle.pack.specs.Image.{nodeBytes, nodesBytes}
 use Rattle.pack.specs.Passes.{PutNode}
 use Rattle.pack.specs.Walk.{NodeAt, GivenNode, Walk, weight, nodesOf, PutTree}

@@ -1,6 +1,6 @@
 -- `pack::reading::list_pack` meets its contract, for both forms. Assumes nothing.
-use Prim.Native.Nat.{ℕ, _+_, _*_, _/_, _<_, _≤_}
-use mathlib.Core.Path.{_≡_, refl, sym, _∙_, ap, subst}
+use Prim.Native.Nat.{ℕ, _/_, _<_, _≤_}
+use mathlib.Core.Path.{_≡_, sym, _∙_, ap, subst}
 use mathlib.Core.Bool.{true}
 use mathlib.Core.List.{List}
 use native.Mathlib.Omega.{arith}
@@ -9,8 +9,8 @@ use lib.ListN.{length, drop}
 use lib.Seq.{sets}
 use Rattle.pack.specs.Node.{Node}
 use Rattle.pack.specs.Image.{Form, IsPack}
-use Rattle.pack.specs.Calls.{parts, begins}
-use Rattle.pack.specs.Passes.{scanned, listed, Reading, Listing, SomePack, NumbersLeft, noRoom, numbers, PackListed}
+use Rattle.pack.specs.Calls.{parts}
+use Rattle.pack.specs.Passes.{scanned, listed, Listing, SomePack, NumbersLeft, noRoom, numbers, PackListed}
 use Rattle.lexer.specs.Refusal.{fault}
 use Rattle.lexer.specs.declared.refusal.Refusal.the-variants.{NoRoom}
 use Rattle.pack.specs.declared.answers.UnpackAnswer.{UnpackAnswer}

@@ -1,5 +1,5 @@
 -- `pack::reading::unpack` meets its contract. Assumes nothing.
-use Prim.Native.Nat.{ℕ, _+_, _<_, _≤_}
+use Prim.Native.Nat.{ℕ, _<_, _≤_}
 use mathlib.Core.Path.{_≡_, refl, sym, _∙_}
 use mathlib.Core.List.{List}
 use native.Mathlib.Omega.{arith}
@@ -14,7 +14,7 @@ use Rattle.lexer.specs.Refusal.{fault}
 use Rattle.lexer.specs.declared.refusal.Refusal.the-variants.{NoPack}
 use Rattle.pack.specs.declared.answers.UnpackAnswer.{UnpackAnswer}
 use Rattle.pack.specs.declared.reading.Counted.{Counted}
-use Rattle.pack.proofs.Images.{pack-counted, pack-length, Read, Begun, counted-pack}
+use Rattle.pack.proofs.Images.{pack-counted, pack-length, Read, counted-pack}
 use Rattle.pack.proofs.reading.unpack.Statement.{statement}
 use Rattle.pack.proofs.reading.unpack.Tie as tie
 

@@ -1,16 +1,13 @@
 -- `reader::line_call::list_clause` meets its contract. Assumes nothing.
-use Prim.Native.Nat.{ℕ, _+_, _*_, _<_, _≤_}
-use mathlib.Core.Path.{_≡_, refl, sym, _∙_, ap, subst}
+use Prim.Native.Nat.{ℕ}
+use mathlib.Core.Path.{_≡_, ap, subst}
 use mathlib.Core.List.{List}
 use native.Mathlib.Omega.{arith}
 use borrow.Author.Needs.{needs}
-use lib.ListN.{length, take}
-use lib.Seq.{sets, length-sets}
+use lib.ListN.{length}
 use Rattle.lexer.specs.declared.cursor.Cursor.{Cursor}
 use Rattle.lexer.specs.declared.refusal.Fault.{Fault}
-use Rattle.reader.specs.Ops.{operators}
-use Rattle.reader.specs.Tree.{Tree, numbers}
-use Rattle.reader.specs.Clause.{mostTokens, Outcome, invalid, token, noMark, noReading, noRoom, read}
+use Rattle.reader.specs.Clause.{Outcome, invalid, token, noMark, noReading, noRoom, read}
 use Rattle.reader.specs.LineCall as lined
 use Rattle.reader.specs.LineCall.{LineOutcome, ReadTree}
 use Rattle.reader.specs.declared.line_call.LineAnswer.{LineAnswer}

@@ -1,6 +1,6 @@
 -- `reader::line_call::write_line` meets its contract. Assumes nothing.
-use Prim.Native.Nat.{ℕ, _+_, _*_, _<_, _≤_}
-use mathlib.Core.Path.{_≡_, refl, sym, _∙_, ap, subst}
+use Prim.Native.Nat.{ℕ, _<_, _≤_}
+use mathlib.Core.Path.{_≡_, refl, sym, _∙_, ap}
 use mathlib.Core.Bool.{Bool, true, false, cond}
 use mathlib.Core.List.{List}
 use native.Mathlib.Omega.{arith}
@@ -13,10 +13,8 @@ use Rattle.lexer.specs.Cursor.{valid}
 use Rattle.lexer.specs.Refusal.{fault}
 use Rattle.lexer.specs.declared.cursor.Cursor.{Cursor}
 use Rattle.lexer.specs.declared.refusal.Refusal.the-variants as refusal
-use Rattle.reader.specs.Ops.{operators}
-use Rattle.reader.specs.Token.{Token}
 use Rattle.reader.specs.Clause.{mostTokens, firstOffset}
-use Rattle.reader.specs.Listing.{Within, line, Outcome, leaves, lineOutcome, Source, Listable, SomeListable, Lists}
+use Rattle.reader.specs.Listing.{Within, line, Outcome, leaves, lineOutcome, Listable, SomeListable, Lists}
 use Rattle.reader.specs.LineCall.{LineOutcome, noRoom, read, ReadTree, Spanning, Fronts, Spans}
 use Rattle.reader.specs.declared.line_call.LineAnswer.{LineAnswer}
 use Rattle.reader.specs.declared.listing.Listed.{Listed}
