@@ -22,7 +22,7 @@ use Rattle.lexer.specs.Refusal.{fault}
 use Rattle.lexer.specs.Token.{mark, barTo, pointTo, soloTo, floated, valued, numbered, plainToken, plainNumber, plain, Lexeme, lexeme, refused, plainLexeme, quotedTo, quotedLexeme, lexemeTo, afterLayout, readLexeme, answered, notValid, call}
 use Rattle.lexer.specs.declared.refusal.Fault.{Fault}
 use Rattle.lexer.specs.declared.refusal.Refusal.{Refusal}
-use Rattle.lexer.specs.declared.refusal.Refusal.the-variants.{EndOfText, UnclosedComment, NoToken, BadQuoted, ForeignByte, SetAside, OutOfLimit, NotValid, NoRoom, TooManyTokens, NoReading, NoText, TooLong, NoPack}
+use Rattle.lexer.specs.declared.refusal.Refusal.the-variants.{EndOfText, UnclosedComment, NoToken, BadQuoted, ForeignByte, SetAside, OutOfLimit, NotValid, NoRoom, TooManyTokens, NoReading, NoText, TooLong, NoPack, UnknownVersion}
 use Rattle.lexer.specs.declared.chars.Peek.{Peek}
 use Rattle.lexer.specs.declared.chars.Look.{Look}
 use Rattle.lexer.specs.declared.cursor.Cursor.{Cursor}
@@ -80,13 +80,14 @@ PlacedAt s c o SetAside = Starts s c o
 PlacedAt s c o OutOfLimit = Starts s c o
 -- 8: "0"; and the text is too long or the cursor is not valid
 PlacedAt s c o NotValid = (o ≡ 0) × (valid (length s) c ≡ false)
--- 9 to 14: these are refusals of other calls
+-- 9 and above: these are refusals of other calls
 PlacedAt s c o NoRoom = ⊥
 PlacedAt s c o TooManyTokens = ⊥
 PlacedAt s c o NoReading = ⊥
 PlacedAt s c o NoText = ⊥
 PlacedAt s c o TooLong = ⊥
 PlacedAt s c o NoPack = ⊥
+PlacedAt s c o UnknownVersion = ⊥
 
 -- a refusal points where the table says
 abbrev pub Placed : List ℕ → Cursor → Fault → Type 0
@@ -490,6 +491,7 @@ module _ (s : List ℕ) (c : Cursor) where
   placed-at-inside o NoText p = absurd p
   placed-at-inside o TooLong p = absurd p
   placed-at-inside o NoPack p = absurd p
+  placed-at-inside o UnknownVersion p = absurd p
 
   pub placed-inside : (w : Fault) → Placed s c w → w .offset ≤ length s
   placed-inside w = placed-at-inside (w .offset) (w .refusal)

@@ -17,6 +17,7 @@ pub enum Refusal {
     NoText,
     TooLong,
     NoPack,
+    UnknownVersion,
 }
 
 // A refusal, and the offset that it points at.
@@ -44,5 +45,6 @@ pub fn refusal_number(refusal: Refusal) -> u8
         Refusal::NoText => 12,
         Refusal::TooLong => 13,
         Refusal::NoPack => 14,
+        Refusal::UnknownVersion => 18,
     }
 }

@@ -20,7 +20,7 @@ use Rattle.reader.specs.Admitted.{admits}
 use Rattle.reader.specs.Tree.{NodeKind, kindNumber, Tree, packed, numbers}
 use Rattle.reader.specs.Grammar.{Clause, Reads}
 use Rattle.reader.specs.Machine.{Out, done, run, start, answer, Numbered}
-use Rattle.reader.specs.Clause.{mostTokens, whole, stopped, clauseTokens, Outcome}
+use Rattle.reader.specs.Clause.{mostTokens, whole, stopped, clauseTokens, firstOffset, Outcome}
 use Rattle.reader.specs.Listing.{Within, kindOf, tokenAt, line, Source}
 use Rattle.reader.specs.LineCall.{longestLine, LineOutcome, ReadTree, Spans}
 use Rattle.reader.specs.declared.clause.ClauseAnswer.{ClauseAnswer}
@@ -33,7 +33,7 @@ use Rattle.reader.proofs.Permits.{never-no-reading, read-tree, room-rea
 use Rattle.reader.proofs.Returns.{tokens-alike, outcome-alike}
 use Rattle.reader.proofs.Indexes.{reads-within}
 use Rattle.reader.proofs.Terms.{packed-both, packed-kind}
-use Rattle.reader.proofs.TreeRoom.{few-numbers, tree-within, spans-part, spans-source, read-front, refused-always, refused-back}
+use Rattle.reader.proofs.TreeRoom.{few-numbers, first-behind, first-inside, tree-within, first-span, spans-part, spans-source, read-front, refused-always, refused-back}
 use Rattle.reader.proofs.Table.{same-exactly, fair, operators-admitted}
 use Rattle.reader.proofs.Answer.{answer-complete, answer-sound, one-tree, reads?, tree-small}
 use Rattle.reader.proofs.Specimens.{Holds, All, table, specimens}
@@ -146,8 +146,15 @@ module _ (s : List ℕ) (c : Cursor) where
     pub clause-numbers : (t : Tree) → Reads operators ts t → length (numbers t) + 2 ≤ 2 * mostTokens
     clause-numbers = few-numbers s c ts e v g
 
-    -- The spans that `span_tokens` leaves are the tokens', one behind the other and within the text.
+    -- A clause's first token starts at the cursor or behind it, within the text.
+    pub clause-starts : (c .offset ≤ firstOffset s c) × (firstOffset s c < length s)
+    clause-starts = (first-behind s c ts e v g, first-inside s c ts e v g)
+
+    -- The spans that `span_tokens` leaves are the tokens', the first one first, one behind the other and within the text.
     module _ (starts ends : List ℕ) (spans : Spans s c starts ends) where
+      pub span-first : getD starts 0 0 ≡ firstOffset s c
+      span-first = first-span s c ts e v g starts ends spans
+
       pub span-part : (i j : ℕ) → i ≤ j → j < length ts → part (getD starts i 0) (getD ends j 0) s ≡ part (tokenAt ts i .start) (tokenAt ts j .end) s
       span-part = spans-part s c ts e v g starts ends spans
 

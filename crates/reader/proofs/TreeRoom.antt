@@ -1,12 +1,13 @@
 -- The clause call with a tree slice that has room for every clause, and the spans of the clause's tokens: what the calls above it go by. Assumes nothing.
-use Prim.Native.Nat.{ℕ, _+_, _*_, _<_, _≤_}
+use Prim.Native.Nat.{ℕ, zero, suc, _+_, _*_, _<_, _≤_}
 use mathlib.Core.Path.{_≡_, refl, _∙_, ap, subst}
-use mathlib.Core.Bool.{true}
-use mathlib.Core.List.{List}
+use mathlib.Core.Bool.{Bool, true, false, cond}
+use mathlib.Core.List.{List, [], _∷_}
 use native.Mathlib.Omega.{arith}
 use lib.ListN.{length, getD, take, List·getD-map}
 use lib.Seq.{sets, length-sets}
-use Rattle.lexer.specs.Cursor.{valid, part}
+use Rattle.lexer.specs.Cursor.{moveTo, valid, part}
+use Rattle.lexer.specs.Token.{Lexeme, lexeme, refused, readLexeme}
 use Rattle.lexer.specs.declared.cursor.Cursor.{Cursor}
 use Rattle.lexer.specs.declared.refusal.Fault.{Fault}
 use Rattle.lexer.proofs.Theorems.{is-valid}
@@ -14,17 +15,51 @@ use Rattle.reader.specs.Token.{Token}
 use Rattle.reader.specs.Ops.{operators}
 use Rattle.reader.specs.Tree.{Tree, numbers}
 use Rattle.reader.specs.Grammar.{Reads}
-use Rattle.reader.specs.Clause.{mostTokens, whole, clauseTokens, Outcome, invalid, token, noMark, noReading, noRoom, read}
+use Rattle.reader.specs.Clause.{mostTokens, tokenIn, isEnd, Gathered, whole, stopped, tooMany, with, onward, gather, clauseTokens, startOf, firstOffset, Outcome, invalid, token, noMark, noReading, noRoom, read}
 use Rattle.reader.specs.Listing.{tokenAt, Source, Within}
 use Rattle.reader.specs.LineCall.{ReadTree, Spans}
 use Rattle.reader.specs.declared.clause.ClauseAnswer.{ClauseAnswer}
 use Rattle.reader.specs.declared.clause.ClauseAnswer.the-variants.{Read, Refused}
 use Rattle.reader.proofs.Answer.{tree-small}
-use Rattle.reader.proofs.Chains.{front-at, source-of}
+use Rattle.reader.proofs.Chains.{Chain, none, more, begins, front-at, source-of}
 use Rattle.reader.proofs.Indexes.{reads-within}
 use Rattle.reader.proofs.Puts.{sets-front}
 use Rattle.reader.proofs.Spans.{terminals-length, gathered-few}
 use Rattle.reader.proofs.Table.{fair, operators-admitted}
+
+-- ---- a clause's first token
+record First (ts : List Token) (at : ℕ) : Type 0 where
+  some : 0 < length ts
+  start : tokenAt ts 0 .start ≡ at
+
+first-with : (t : Token) (g : Gathered) (ts : List Token) (e : Cursor) → with t g ≡ whole ts e → First ts (t .start)
+unfolding with
+first-with t (whole us d) ts e h = let q : t ∷ us ≡ ts = cc in subst (λ (l : List Token). First l (t .start)) q (record { some = omega arith; start = refl })
+first-with t (stopped w) ts e h = let z : _≡_ {A = ℕ} 0 1 = cc in absurd (omega arith)
+first-with t tooMany ts e h = let z : _≡_ {A = ℕ} 0 1 = cc in absurd (omega arith)
+
+first-onward : (s : List ℕ) (c : Cursor) (x : Lexeme) (next : Cursor → Gathered) (ts : List Token) (e : Cursor) → onward s c x next ≡ whole ts e → First ts (startOf x)
+unfolding onward startOf with
+first-onward s c (refused w) next ts e h = let z : _≡_ {A = ℕ} 0 1 = cc in absurd (omega arith)
+first-onward s c (lexeme t k x) next ts e h = go (isEnd (t .kind)) h
+  where
+    go : (b : Bool) → cond b (whole (tokenIn s t k x ∷ []) (moveTo s c k)) (with (tokenIn s t k x) (next (moveTo s c k))) ≡ whole ts e → First ts (t .start)
+    go true q = first-with (tokenIn s t k x) (whole [] (moveTo s c k)) ts e q
+    go false q = first-with (tokenIn s t k x) (next (moveTo s c k)) ts e q
+
+first-gathered : (n : ℕ) (s : List ℕ) (c : Cursor) (ts : List Token) (e : Cursor) → gather n s c ≡ whole ts e → First ts (firstOffset s c)
+unfolding gather
+first-gathered zero s c ts e g = let z : _≡_ {A = ℕ} 0 1 = cc in absurd (omega arith)
+first-gathered (suc n) s c ts e g = first-onward s c (readLexeme false s (c .offset)) (λ d. gather n s d) ts e g
+
+-- tokens that stand one behind the other
+record Standing (n from at : ℕ) : Type 0 where
+  behind : from ≤ at
+  inside : at < n
+
+first-stands : (n from at : ℕ) (ts : List Token) → Chain n from ts → First ts at → Standing n from at
+first-stands n from at [] (none h) f = absurd (omega (arith, f .some))
+first-stands n from at (t ∷ ts) (more a b d) f = record { behind = omega (arith, f .start); inside = omega (arith, f .start, begins n d) }
 
 module _ (s : List ℕ) (c : Cursor) where
   module _ (ts : List Token) (e : Cursor) (v : valid (length s) c ≡ true) (g : clauseTokens s c ≡ whole ts e) where
@@ -33,6 +68,18 @@ module _ (s : List ℕ) (c : Cursor) where
     few-numbers t q =
         omega
         (arith, tree-small operators (fair operators operators-admitted) q, terminals-length 0 ts, gathered-few mostTokens s c ts e v g .few)
+
+    first : First ts (firstOffset s c)
+    first = first-gathered mostTokens s c ts e g
+
+    stands : Standing (length s) (c .offset) (firstOffset s c)
+    stands = first-stands (length s) (c .offset) (firstOffset s c) ts (gathered-few mostTokens s c ts e v g .chain) first
+
+    pub first-behind : c .offset ≤ firstOffset s c
+    first-behind = stands .behind
+
+    pub first-inside : firstOffset s c < length s
+    first-inside = stands .inside
 
     pub tree-within : (t : Tree) → Reads operators ts t → Within (length ts) t
     tree-within t q = reads-within operators ts t (gathered-few mostTokens s c ts e v g .few) q
@@ -43,6 +90,9 @@ module _ (s : List ℕ) (c : Cursor) where
 
       end-at : (i : ℕ) → i < length ts → getD ends i 0 ≡ tokenAt ts i .end
       end-at i l = front-at (λ (k : Token). k .end) ts ends (p .fronts ts e g .ends-same) i l ∙ List·getD-map (λ (k : Token). k .end) ts i _
+
+      pub first-span : getD starts 0 0 ≡ firstOffset s c
+      first-span = start-at 0 (first .some) ∙ first .start
 
       -- from the start of one token to the end of another
       pub spans-part : (i j : ℕ) → i ≤ j → j < length ts → part (getD starts i 0) (getD ends j 0) s ≡ part (tokenAt ts i .start) (tokenAt ts j .end) s
