@@ -6,28 +6,26 @@ use mathlib.Core.List.{List, [], _∷_, _++_, append-assoc, append-nil}
 use native.Mathlib.Omega.{arith}
 use lib.Dec.{eqb}
 use lib.ListN.{length, getD, take, drop, length-append, length-drop, take-append-drop}
-use Rattle.lexer.specs.Cursor.{part}
+use Rattle.lexer.specs.Chars.{newline}
+use Rattle.lexer.specs.Cursor.{step, walk, part, moveTo}
 use Rattle.lexer.specs.declared.cursor.Cursor.{Cursor}
-use Rattle.lexer.specs.declared.refusal.Fault.{Fault}
 use Rattle.lexer.proofs.Theorems.{is-valid}
 use Rattle.reader.specs.Token.{Token}
 use Rattle.reader.specs.Ops.{operators}
 use Rattle.reader.specs.Tree.{NodeKind, plain, negative, call, prefix, infx, list, listTail, curly, emptyList, emptyCurly, kindNumber, Tree, node, Forest, nil, _◂_, arity, packed, numbers, numbersAll}
 use Rattle.reader.specs.Listing.{shapeOf, lastToken, tokenAt, Source, Within, root, WithinAll, none, more}
-use Rattle.reader.proofs.Theorems.{kind-and-arity, kind-number, clause-numbers}
+use Rattle.reader.specs.Clause.{firstOffset}
+use Rattle.reader.proofs.Theorems.{kind-and-arity, kind-number, clause-numbers, clause-starts}
 use Rattle.pack.specs.Node.{Node, aNode, most, mostNodes, Fitting, Each, also, Acceptable}
 use Rattle.pack.specs.Node as N
-use Rattle.pack.specs.Image.{nodeBytes, nodesBytes, Form}
-use Rattle.pack.specs.ClauseCall.{lastOf, packNode, packNodes, packAll, sourceOf, clauseNodes, ClauseAt, ClausePack}
-use Rattle.pack.specs.ClauseCall as L
-use Rattle.pack.specs.Passes.{Wrote, long, short, wrote}
-use Rattle.pack.specs.Walk.{lastAt, NodeAt, GivenNode, Lying, Walk, weight, nodesOf}
+use Rattle.pack.specs.Image.{nodeBytes, nodesBytes, line}
+use Rattle.pack.specs.ClauseCall.{lastOf, packNode, packNodes, packAll, sourceOf, clauseNodes, ClauseAt, formAt}
+use Rattle.pack.specs.Walk.{lastAt, NodeAt, GivenNode, Lying, Walk, weight, nodesOf, lineBehind, Ahead}
 use Rattle.pack.specs.Walk as M
 use Rattle.pack.specs.declared.nodes.Given.{Given}
-use Rattle.pack.specs.declared.answers.PackAnswer.{PackAnswer}
-use Rattle.pack.specs.declared.answers.ClausePackAnswer.{ClausePackAnswer}
+use Rattle.pack.specs.declared.format.Version.{Version}
 use Rattle.pack.proofs.Arities.{Shaped, shaped, ShapedAll, noTree, aTree, reads-shaped}
-use Rattle.pack.proofs.Basics.{part-length, drop-two}
+use Rattle.pack.proofs.Basics.{part-length, drop-one, drop-two}
 use Rattle.pack.proofs.Scans.{node-length}
 
 -- ---- how many nodes
@@ -318,11 +316,63 @@ module _ (s ms : List ℕ) (at left : ℕ) (starts ends : List ℕ) (w : Walk s 
           ap (λ (n : ℕ). nodesOf s starts ends n (drop at ms)) one-more ∙ ap (nodesOf s starts ends (suc (left - 1))) (drop-two ms at (here .both))
           ∙ cc (g .kind-same, g .arity-same, g .start-same, g .size-same)
 
--- ---- what packing a clause's nodes leaves is what the clause's pack leaves
-module _ (f : Form) (s : List ℕ) (c : Cursor) (d : List ℕ) (ts : List Token) (e : Cursor) (t : Tree) (o : ClauseAt s c ts e t) where
-  pub clause-refused : {q : Fault} {d′ : List ℕ} → Wrote f (clauseNodes s ts t) d (PackAnswer.Refused q) d′ → ClausePack f s c d (ClausePackAnswer.Refused q c) d′
-  clause-refused (long h) = L.tooLong o h
-  clause-refused (short l h) = L.noRoom o l h
+-- ---- the line of its first token
+module _ (s : List ℕ) (c : Cursor) (ts : List Token) (e : Cursor) (t : Tree) (o : ClauseAt s c ts e t) where
+  pub clause-ahead : Ahead s c (firstOffset s c)
+  clause-ahead =
+      let v = is-valid (length s) c (o .valid-cursor) in
+      let p = clause-starts s c ts e (o .valid-cursor) (o .gathered) in
+      record { behind = p .0; inside = p .1; short = v .short; line = v .line }
 
-  pub clause-packed : {n : ℕ} {d′ : List ℕ} → Wrote f (clauseNodes s ts t) d (PackAnswer.Packed n) d′ → ClausePack f s c d (ClausePackAnswer.Packed n e) d′
-  clause-packed (wrote l h) = L.packed o l h
+-- the lines of a walk, without offset and column
+pub linesOver : ℕ → List ℕ → ℕ
+linesOver l [] = l
+linesOver l (x ∷ xs) = linesOver (lineBehind l x) xs
+
+walk-lines : (c : Cursor) (xs : List ℕ) → walk c xs .line ≡ linesOver (c .line) xs
+unfolding walk linesOver lineBehind
+walk-lines c [] = refl
+walk-lines c (x ∷ xs) = walk-lines (step c x) xs
+
+pub line-one : (l x : ℕ) → lineBehind l x ≤ l + 1
+unfolding lineBehind
+line-one l x = go (eqb x newline)
+  where
+    go : (b : Bool) → cond b (l + 1) l ≤ l + 1
+    go true = omega arith
+    go false = omega arith
+
+lines-few : (l : ℕ) (xs : List ℕ) → linesOver l xs ≤ l + length xs
+unfolding linesOver
+lines-few l [] = omega arith
+lines-few l (x ∷ xs) = let h = lines-few (lineBehind l x) xs in let k = line-one l x in omega arith
+
+module _ (s : List ℕ) (c : Cursor) (o : ℕ) (a : Ahead s c o) where
+  pub line-before : moveTo s c o .line ≤ o
+  unfolding moveTo
+  line-before =
+      let x = part (c .offset) o s in
+      let h : length x ≡ o - c .offset = part-length (c .offset) (o - c .offset) s (omega (arith, a .behind, a .inside)) in
+      omega (arith, walk-lines c x, lines-few (c .line) x, h, a .behind, a .line)
+
+-- as the code counts them
+pub lines-begin : (s : List ℕ) (c : Cursor) (o : ℕ) → linesOver (c .line) (part (c .offset) o s) ≡ moveTo s c o .line
+unfolding moveTo
+lines-begin s c o = sym (walk-lines c (part (c .offset) o s))
+
+module _ (s : List ℕ) (o at l : ℕ) where
+  pub lines-end : o ≤ at → linesOver l (part at o s) ≡ l
+  unfolding linesOver
+  lines-end h = let e : o - at ≡ 0 = omega arith in ap (λ (n : ℕ). linesOver l (take n (drop at s))) e
+
+  pub lines-on : at < o → o < length s → linesOver l (part at o s) ≡ linesOver (lineBehind l (getD s at 0)) (part (at + 1) o s)
+  unfolding linesOver
+  lines-on h i =
+      let e : o - at ≡ suc (o - (at + 1)) = omega arith in
+      ap (λ (n : ℕ). linesOver l (take n (drop at s))) e ∙ ap (λ (x : List ℕ). linesOver l (take (suc (o - (at + 1))) x)) (drop-one s at (omega arith))
+
+-- the form in which a clause is packed has a line that two bytes hold
+pub form-fits : (v : Version) (s : List ℕ) (c : Cursor) (o : ℕ) → Ahead s c o → line (formAt v s c o) ≤ most
+unfolding formAt line
+form-fits Version.One s c o a = omega arith
+form-fits Version.Two s c o a = omega (arith, line-before s c o a, a .inside, a .short)

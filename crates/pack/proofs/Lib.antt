@@ -6,8 +6,10 @@ pub mod Images
 pub mod Weights
 pub mod Weighing
 pub mod Packs
+pub mod Judging
 pub mod Trips
 pub mod Outcomes
+pub mod Moving
 pub mod Arities
 pub mod Clauses
 pub mod ClauseOutcomes

@@ -1,25 +1,25 @@
--- A clause, from its text, as a pack. 02, request 2. Definitions only.
-use Prim.Native.Nat.{ℕ, _+_, _<_, _≤_}
+-- A clause, from its text, as a pack. 02, requests 2 and 13. Definitions only.
+use Prim.Native.Nat.{ℕ, _+_}
 use mathlib.Core.Path.{_≡_}
 use mathlib.Core.Bool.{true, cond}
 use mathlib.Core.List.{List, [], _∷_, _++_}
 use lib.Dec.{eqb}
 use lib.ListN.{length}
-use lib.Seq.{sets}
-use Rattle.lexer.specs.Cursor.{part, valid}
-use Rattle.lexer.specs.Refusal.{fault}
+use Rattle.lexer.specs.Cursor.{part, moveTo, valid}
 use Rattle.lexer.specs.declared.cursor.Cursor.{Cursor}
 use Rattle.lexer.specs.declared.refusal.Fault.{Fault}
-use Rattle.lexer.specs.declared.refusal.Refusal.the-variants.{NoRoom, TooLong}
 use Rattle.reader.specs.Token.{Token}
 use Rattle.reader.specs.Ops.{operators}
 use Rattle.reader.specs.Tree.{NodeKind, negative, kindNumber, Tree, node, Forest, nil, _◂_, arity}
 use Rattle.reader.specs.Grammar.{Reads}
-use Rattle.reader.specs.Clause.{whole, clauseTokens, Outcome}
+use Rattle.reader.specs.Clause.{whole, clauseTokens, firstOffset, Outcome}
 use Rattle.reader.specs.Listing.{tokenAt}
 use Rattle.reader.specs.declared.clause.ClauseAnswer.{ClauseAnswer}
-use Rattle.pack.specs.Node.{Node, aNode, most}
-use Rattle.pack.specs.Image.{Form, body, image}
+use Rattle.pack.specs.Node.{Node, aNode}
+use Rattle.pack.specs.Calls.{Written}
+use Rattle.pack.specs.declared.format.Form.{Form}
+use Rattle.pack.specs.declared.format.Version.{Version}
+use Rattle.pack.specs.declared.answers.PackAnswer.{PackAnswer}
 use Rattle.pack.specs.declared.answers.ClausePackAnswer.{ClausePackAnswer}
 use Rattle.pack.specs.declared.answers.ClausePackAnswer.the-variants.{Packed, Refused}
 
@@ -55,17 +55,24 @@ pub record ClauseAt (s : List ℕ) (c : Cursor) (ts : List Token) (e : Cursor) (
   pub gathered : clauseTokens s c ≡ whole ts e
   pub reads : Reads operators ts t
 
+-- the form of a pack of this version whose first token starts at the offset o: "the line of the clause's first token plus one", counted on from c
+unfoldable pub formAt : Version → List ℕ → Cursor → ℕ → Form
+formAt Version.One s c o = Form.One
+formAt Version.Two s c o = Form.Two (moveTo s c o .line + 1)
+
+-- the form in which the clause at c is packed
+abbrev pub clauseForm : Version → List ℕ → Cursor → Form
+clauseForm v s c = formAt v s c (firstOffset s c)
+
+-- what the pack of its nodes tells, with the cursor e behind the mark; a refusal gives c back
+unfoldable pub told : Cursor → Cursor → PackAnswer → ClausePackAnswer
+told c e (PackAnswer.Packed n) = Packed n e
+told c e (PackAnswer.Refused w) = Refused w c
+
 -- what the call may answer, and leave in the slice d, in the form f. 14 is no case: a clause's nodes are acceptable (proofs/Theorems)
 pub data ClausePack (f : Form) (s : List ℕ) (c : Cursor) (d : List ℕ) : ClausePackAnswer → List ℕ → Type 0 where
   -- 8, 1 to 7, 10, 11: as the clause call refuses, whatever tree slice it is lent
   refused : {w : Fault} → ((tree : List ℕ) → Outcome s c tree (ClauseAnswer.Refused w c) tree) → ClausePack f s c d (Refused w c) d
-  -- 13
-  tooLong : {ts : List Token} {e : Cursor} {t : Tree} → ClauseAt s c ts e t → most < length (body f (clauseNodes s ts t)) →
-      ClausePack f s c d (Refused (fault TooLong 0) c) d
-  -- 9
-  noRoom : {ts : List Token} {e : Cursor} {t : Tree} → ClauseAt s c ts e t → length (body f (clauseNodes s ts t)) ≤ most →
-      length d < length (image f (clauseNodes s ts t)) → ClausePack f s c d (Refused (fault NoRoom 0) c) d
-  -- the pack of the reading's nodes, its length and the cursor after the mark
-  packed : {ts : List Token} {e : Cursor} {t : Tree} → ClauseAt s c ts e t → length (body f (clauseNodes s ts t)) ≤ most →
-      length (image f (clauseNodes s ts t)) ≤ length d →
-      ClausePack f s c d (Packed (length (image f (clauseNodes s ts t))) e) (sets d 0 (image f (clauseNodes s ts t)))
+  -- 13, 9, or the pack of the reading's nodes
+  written : {ts : List Token} {e : Cursor} {t : Tree} {r : PackAnswer} {x : List ℕ} → ClauseAt s c ts e t → Written f (clauseNodes s ts t) d r x →
+      ClausePack f s c d (told c e r) x

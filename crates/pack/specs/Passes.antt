@@ -8,15 +8,20 @@ use lib.Dec.{eqb, leb}
 use lib.ListN.{length, getD, take, drop}
 use lib.Seq.{sets}
 use Rattle.pack.specs.Node.{Node, aNode, canHave, most, mostNodes}
-use Rattle.pack.specs.Image.{two, nodeBytes, Form, version, lineBytes, body, image, IsPack}
-use Rattle.pack.specs.Calls.{parts, begins}
+use Rattle.pack.specs.Image.{two, nodeBytes, version, lineBytes, IsPack}
+use Rattle.pack.specs.Calls.{Written, begins, Listed, Unread}
+use Rattle.pack.specs.Moves.{Only}
+use Rattle.pack.specs.declared.format.Form.{Form}
+use Rattle.pack.specs.declared.format.Version.{Version}
 use Rattle.lexer.specs.Refusal.{fault}
+use Rattle.lexer.specs.declared.refusal.Fault.{Fault}
 use Rattle.lexer.specs.declared.refusal.Refusal.the-variants.{NoRoom, TooLong}
 use Rattle.pack.specs.declared.answers.PackAnswer.{PackAnswer}
 use Rattle.pack.specs.declared.answers.UnpackAnswer.{UnpackAnswer}
 use Rattle.pack.specs.declared.reading.Head.{Head}
 use Rattle.pack.specs.declared.reading.Counted.{Counted}
 use Rattle.pack.specs.declared.reading.Counted.the-variants.{Nodes, NoNodes}
+use Rattle.pack.specs.declared.reading.Judged.{Judged}
 use Rattle.pack.specs.declared.nodes.Given.{Given}
 use Rattle.pack.specs.declared.writing.Weighed.{Weighed}
 use Rattle.pack.specs.declared.writing.Weighed.the-variants.{Bytes, NoTree}
@@ -130,21 +135,48 @@ pub record Listing (s : List ℕ) (at n : ℕ) (d : List ℕ) : Type 0 where
   pub reading : Reading s at n
   pub room : 4 * n ≤ length d
 
--- the image is the pack of n nodes, of some form, the first of which stands at `from`
-pub record SomePack (s : List ℕ) (from n : ℕ) : Type 0 where
-  pub form : Form
+-- the image is the pack of n nodes, in this form
+pub record SomePack (s : List ℕ) (f : Form) (n : ℕ) : Type 0 where
   pub nodes : List Node
-  pub is : IsPack form s nodes
+  pub is : IsPack f s nodes
   pub count : length nodes ≡ n
-  pub first : begins form ≡ from
 
--- what the numbers of a pack's nodes leave in the slice
-pub data NumbersLeft (from : ℕ) (ns : List Node) (d : List ℕ) : UnpackAnswer → List ℕ → Type 0 where
-  noRoom : length d < 4 * length ns → NumbersLeft from ns d (UnpackAnswer.Refused (fault NoRoom 0)) d
-  numbers : 4 * length ns ≤ length d → NumbersLeft from ns d (UnpackAnswer.Nodes (length ns)) (sets d 0 (parts from ns))
+-- what the numbers of the pack's nodes leave in the slice
+pub record PackListed (s : List ℕ) (f : Form) (d : List ℕ) (r : UnpackAnswer) (d′ : List ℕ) : Type 0 where
+  pub left : (ns : List Node) → IsPack f s ns → Listed f ns d r d′
 
-pub record PackListed (s : List ℕ) (from n : ℕ) (d : List ℕ) (r : UnpackAnswer) (d′ : List ℕ) : Type 0 where
-  pub left : (f : Form) (ns : List Node) → IsPack f s ns → begins f ≡ from → NumbersLeft from ns d r d′
+-- the byte of a version, and how many bytes of a body stand before the node count
+abbrev pub versionByte : Version → ℕ
+versionByte Version.One = 1
+versionByte Version.Two = 2
+
+abbrev pub lineSize : Version → ℕ
+lineSize Version.One = 0
+lineSize Version.Two = 2
+
+-- the form of a pack of this version
+abbrev pub formIn : Version → List ℕ → Form
+formIn Version.One s = Form.One
+formIn Version.Two s = Form.Two (wordAt s 3)
+
+-- an image that has this version's byte
+pub record Begins (s : List ℕ) (v : Version) : Type 0 where
+  pub inside : 1 ≤ length s
+  pub same : getD s 0 0 ≡ versionByte v
+  pub bytes : (i : ℕ) → getD s i 0 ≤ 255
+
+-- what an image is to a call that knows this version
+pub data Judgement (v : Version) (s : List ℕ) : Judged → Type 0 where
+  refuses : {w : Fault} → Unread (Only (versionByte v)) s w → Judgement v s (Judged.Refused w)
+  finds : {f : Form} {n : ℕ} → version f ≡ versionByte v → SomePack s f n → Judgement v s (Judged.Pack f n)
+
+-- the version to judge an image by
+unfoldable pub versionIn : List ℕ → Version
+versionIn s = cond (eqb (getD s 0 0) 2) Version.Two Version.One
+
+-- what moving the pack's nodes to the form g leaves in the slice
+pub record PackMoved (s : List ℕ) (f g : Form) (d : List ℕ) (r : PackAnswer) (d′ : List ℕ) : Type 0 where
+  pub left : (ns : List Node) → IsPack f s ns → Written g ns d r d′
 
 -- ---- writing
 
@@ -231,14 +263,13 @@ pub record Light (count size : ℕ) : Type 0 where
 abbrev pub headBytes : Form → ℕ → ℕ → List ℕ
 headBytes f b n = version f ∷ (two b ++ (lineBytes f ++ two n))
 
+pub record PutHead (f : Form) (b n room : ℕ) : Type 0 where
+  pub inside : begins f ≤ room
+  pub body-small : b ≤ most
+  pub count-small : n ≤ most
+
 -- the tests for 13 and 9, and what stands before the nodes
 pub data PackBegun (f : Form) (n b : ℕ) (d : List ℕ) : PackAnswer → List ℕ → Type 0 where
   tooLong : most < b → PackBegun f n b d (PackAnswer.Refused (fault TooLong 0)) d
   noRoom : b ≤ most → length d < b + 3 → PackBegun f n b d (PackAnswer.Refused (fault NoRoom 0)) d
   begun : b ≤ most → b + 3 ≤ length d → PackBegun f n b d (PackAnswer.Packed (b + 3)) (sets d 0 (headBytes f b n))
-
--- what packing these nodes leaves, whatever they came from
-pub data Wrote (f : Form) (ns : List Node) (d : List ℕ) : PackAnswer → List ℕ → Type 0 where
-  long : most < length (body f ns) → Wrote f ns d (PackAnswer.Refused (fault TooLong 0)) d
-  short : length (body f ns) ≤ most → length d < length (image f ns) → Wrote f ns d (PackAnswer.Refused (fault NoRoom 0)) d
-  wrote : length (body f ns) ≤ most → length (image f ns) ≤ length d → Wrote f ns d (PackAnswer.Packed (length (image f ns))) (sets d 0 (image f ns))

@@ -2,9 +2,13 @@
 -- proofs/ shows that the nodes are those of ClauseCall.
 use Prim.Native.Nat.{ℕ, zero, suc, _+_, _-_, _*_, _/_, _%_, _<_, _≤_}
 use mathlib.Core.Path.{_≡_}
+use mathlib.Core.Bool.{cond}
 use mathlib.Core.List.{List, [], _∷_}
+use lib.Dec.{eqb}
 use lib.ListN.{length, getD, drop}
-use Rattle.lexer.specs.Cursor.{part}
+use Rattle.lexer.specs.Chars.{newline}
+use Rattle.lexer.specs.Cursor.{longest, part, moveTo}
+use Rattle.lexer.specs.declared.cursor.Cursor.{Cursor}
 use Rattle.reader.specs.Listing.{Source}
 use Rattle.pack.specs.Node.{Node, aNode, most, mostNodes}
 use Rattle.pack.specs.ClauseCall.{lastOf}
@@ -69,3 +73,20 @@ pub record PutTree (s ms : List ℕ) (count : ℕ) (starts ends : List ℕ) (roo
   pub walk : Walk s ms 0 count starts ends
   pub fits : from + weight starts ends count ms ≤ room
   pub small : from + weight starts ends count ms ≤ most + 3
+
+-- ---- the line of the first token
+
+-- the line behind a byte of the line l
+unfoldable pub lineBehind : ℕ → ℕ → ℕ
+lineBehind l x = cond (eqb x newline) (l + 1) l
+
+-- an offset of the text that is not before the cursor
+pub record Ahead (s : List ℕ) (c : Cursor) (o : ℕ) : Type 0 where
+  pub behind : c .offset ≤ o
+  pub inside : o < length s
+  pub short : length s ≤ longest
+  pub line : c .line ≤ c .offset
+
+pub record LineAt (s : List ℕ) (c : Cursor) (o r : ℕ) : Type 0 where
+  pub same : r ≡ moveTo s c o .line
+  pub before : r ≤ o

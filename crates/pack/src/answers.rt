@@ -1,4 +1,5 @@
 // What packing and unpacking answer.
+use crate::format::Form;
 use lexer::Cursor;
 use lexer::Fault;
 use lexer::Refusal;
@@ -9,9 +10,9 @@ pub enum PackAnswer {
     Refused(Fault),
 }
 
-// The count of nodes.
+// The pack's form, and the count of nodes.
 pub enum UnpackAnswer {
-    Nodes(usize),
+    Nodes { form: Form, count: usize },
     Refused(Fault),
 }
 
@@ -34,5 +35,10 @@ pub(crate) const TOO_LONG: Fault = Fault {
 
 pub(crate) const NO_PACK: Fault = Fault {
     refusal: Refusal::NoPack,
+    offset: 0,
+};
+
+pub(crate) const UNKNOWN_VERSION: Fault = Fault {
+    refusal: Refusal::UnknownVersion,
     offset: 0,
 };

@@ -1,23 +1,31 @@
 // Unpacking: an image is read twice, first to see that it is a pack, then for its numbers.
 use crate::answers::NO_PACK;
 use crate::answers::NO_ROOM;
+use crate::answers::UNKNOWN_VERSION;
 use crate::answers::UnpackAnswer;
 use crate::format::BODY_AT;
 use crate::format::BYTE;
-use crate::format::FORM_1;
+use crate::format::FORM_2;
 use crate::format::FRONT;
+use crate::format::Form;
 use crate::format::LENGTH_AT;
 use crate::format::MOST_NODES;
 use crate::format::NUMBERS;
+use crate::format::Version;
+use crate::format::first_node;
+use crate::format::line_size;
+use crate::format::version_byte;
 use crate::kinds::can_have;
 use crate::nodes::Given;
 use crate::nodes::put_given;
 use crate::widths::of_byte;
+use crate::widths::to_half;
+use lexer::Fault;
 ghost use mathlib.Core.Path.{_≡_};
 ghost use lib.ListN.{drop};
 ghost use lib.Seq.{sets};
-ghost use Rattle.pack.specs.Calls.{UnpackOutcome};
-ghost use Rattle.pack.specs.Passes.{Inside, First, Word, Headed, scanned, Scanning, counted, Skips, listed, Listing, SomePack, PackListed};
+ghost use Rattle.pack.specs.Calls.{UnpackOutcome, EitherOutcome};
+ghost use Rattle.pack.specs.Passes.{Inside, First, Word, Headed, scanned, Scanning, counted, Skips, listed, Listing, SomePack, PackListed, formIn, Begins, Judgement, versionIn};
 
 // What stands before a node's spelling.
 pub struct Head {
@@ -32,8 +40,14 @@ pub enum Counted {
     NoNodes,
 }
 
+// A pack of the form and the count of nodes, or why it is none.
+pub enum Judged {
+    Pack { form: Form, count: usize },
+    Refused(Fault),
+}
+
 // The version byte.
-pub(crate) fn version_of(s: &[u8]) -> usize
+fn version_of(s: &[u8]) -> usize
     requires { ⌜ Inside (now s) 0 1 ⌝ }
     ensures { λ r. ⌜ First (now (s .entry)) r ⌝ }
 {
@@ -92,7 +106,7 @@ fn scan(s: &[u8], from: usize, count: usize) -> bool
 }
 
 // The node count of a pack whose body has `skip` bytes before it. The version is not looked at.
-pub(crate) fn count_nodes(s: &[u8], skip: usize) -> Counted
+fn count_nodes(s: &[u8], skip: usize) -> Counted
     requires { ⌜ Skips skip ⌝ }
     ensures { λ r. ⌜ r ≡ counted skip (now (s .entry)) ⌝ }
 {
@@ -135,30 +149,85 @@ fn put_numbers(s: &[u8], from: usize, count: usize, nodes: &mut [u32])
     }
 }
 
-// The numbers of a pack of so many nodes, whose first stands at `from`, if they fit.
-fn list_pack(image: &[u8], from: usize, count: usize, nodes: &mut [u32]) -> UnpackAnswer
-    requires { ⌜ SomePack (now image) from count ⌝ }
-    ensures { λ r. ⌜ PackListed (now (image .entry)) from count (now (nodes .entry)) r (now (nodes .exit)) ⌝ }
+// The numbers of a pack of so many nodes, if they fit.
+fn list_pack(image: &[u8], form: Form, count: usize, nodes: &mut [u32]) -> UnpackAnswer
+    requires { ⌜ SomePack (now image) form count ⌝ }
+    ensures { λ r. ⌜ PackListed (now (image .entry)) form (now (nodes .entry)) r (now (nodes .exit)) ⌝ }
 {
     if nodes.len() / NUMBERS < count {
         return UnpackAnswer::Refused(NO_ROOM);
     }
-    put_numbers(image, from, count, nodes);
-    UnpackAnswer::Nodes(count)
+    put_numbers(image, first_node(form), count, nodes);
+    UnpackAnswer::Nodes { form, count }
 }
 
-// The nodes of a pack of form 1: four numbers each, with the spelling as a part of the image.
+// The form that the first bytes of a pack say.
+fn form_in(s: &[u8], version: Version) -> Form
+    requires { ⌜ Inside (now s) 0 5 ⌝ }
+    ensures { λ r. ⌜ r ≡ formIn version (now (s .entry)) ⌝ }
+{
+    match version {
+        Version::One => Form::One,
+        Version::Two => Form::Two(to_half(word_at(s, BODY_AT))),
+    }
+}
+
+// The same for an image that has this version byte.
+fn judge_nodes(image: &[u8], version: Version) -> Judged
+    requires { ⌜ Begins (now image) version ⌝ }
+    ensures { λ r. ⌜ Judgement version (now (image .entry)) r ⌝ }
+{
+    match count_nodes(image, line_size(version)) {
+        Counted::NoNodes => Judged::Refused(NO_PACK),
+        Counted::Nodes(count) => Judged::Pack {
+            form: form_in(image, version),
+            count,
+        },
+    }
+}
+
+// What an image is to a call that knows one version.
+pub(crate) fn judge(image: &[u8], version: Version) -> Judged
+    ensures { λ r. ⌜ Judgement version (now (image .entry)) r ⌝ }
+{
+    if image.len() < 1 {
+        return Judged::Refused(NO_PACK);
+    }
+    if version_of(image) != version_byte(version) {
+        return Judged::Refused(UNKNOWN_VERSION);
+    }
+    judge_nodes(image, version)
+}
+
+// The nodes of a pack of form 1, as masts in the field read it: four numbers each, with the spelling as a part of the image.
 pub fn unpack(image: &[u8], nodes: &mut [u32]) -> UnpackAnswer
     ensures { λ r. ⌜ UnpackOutcome (now (image .entry)) (now (nodes .entry)) r (now (nodes .exit)) ⌝ }
 {
+    match judge(image, Version::One) {
+        Judged::Refused(_fault) => UnpackAnswer::Refused(NO_PACK),
+        Judged::Pack { form, count } => list_pack(image, form, count, nodes),
+    }
+}
+
+// The version to judge an image by. Where it is another than 1 and 2, it is none that a call knows.
+fn version_in(image: &[u8]) -> Version
+    ensures { λ r. ⌜ r ≡ versionIn (now (image .entry)) ⌝ }
+{
     if image.len() < 1 {
-        return UnpackAnswer::Refused(NO_PACK);
+        return Version::One;
     }
-    if version_of(image) != FORM_1 {
-        return UnpackAnswer::Refused(NO_PACK);
+    if version_of(image) == FORM_2 {
+        return Version::Two;
     }
-    match count_nodes(image, 0) {
-        Counted::NoNodes => UnpackAnswer::Refused(NO_PACK),
-        Counted::Nodes(count) => list_pack(image, FRONT, count, nodes),
+    Version::One
+}
+
+// The nodes of a pack of either form, in the same way.
+pub fn unpack_either(image: &[u8], nodes: &mut [u32]) -> UnpackAnswer
+    ensures { λ r. ⌜ EitherOutcome (now (image .entry)) (now (nodes .entry)) r (now (nodes .exit)) ⌝ }
+{
+    match judge(image, version_in(image)) {
+        Judged::Refused(fault) => UnpackAnswer::Refused(fault),
+        Judged::Pack { form, count } => list_pack(image, form, count, nodes),
     }
 }

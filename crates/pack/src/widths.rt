@@ -28,6 +28,13 @@ pub(crate) fn to_byte(x: usize) -> u8
     x as u8
 }
 
+pub(crate) fn to_half(x: usize) -> u16
+    requires { ⌜ x ≤ mostHalf ⌝ }
+    ensures { λ r. ⌜ r ≡ x ⌝ }
+{
+    x as u16
+}
+
 pub(crate) fn to_number(x: usize) -> u32
     requires { ⌜ x ≤ mostNumber ⌝ }
     ensures { λ r. ⌜ r ≡ x ⌝ }

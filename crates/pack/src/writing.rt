@@ -5,26 +5,29 @@ use crate::answers::PackAnswer;
 use crate::answers::TOO_LONG;
 use crate::format::BODY_AT;
 use crate::format::BYTE;
-use crate::format::COUNT;
 use crate::format::FORM_1;
+use crate::format::FORM_2;
 use crate::format::FRONT;
+use crate::format::Form;
 use crate::format::LONGEST_BODY;
 use crate::format::LONGEST_SPELLING;
 use crate::format::MOST_NODES;
 use crate::format::NUMBERS;
+use crate::format::first_node;
 use crate::kinds::can_have;
 use crate::nodes::Given;
 use crate::nodes::given_at;
+use crate::widths::of_half;
 use crate::widths::to_byte;
-ghost use Prim.Native.Nat.{_+_};
+ghost use Prim.Native.Nat.{_+_, _-_};
 ghost use mathlib.Core.Path.{_≡_};
 ghost use mathlib.Core.List.{_∷_, _++_};
 ghost use lib.ListN.{length, take, drop};
 ghost use lib.Seq.{sets};
 ghost use Rattle.pack.specs.Node.{aNode};
-ghost use Rattle.pack.specs.Image.{two, form1, nodeBytes};
-ghost use Rattle.pack.specs.Calls.{PackOutcome};
-ghost use Rattle.pack.specs.Passes.{weighed, Weighing, PutWord, PutFront, PutPart, PutNode, laid, PutNodes, Weighs, Light, PackBegun};
+ghost use Rattle.pack.specs.Image.{two, nodeBytes};
+ghost use Rattle.pack.specs.Calls.{begins, PackOutcome};
+ghost use Rattle.pack.specs.Passes.{weighed, Weighing, PutWord, PutFront, PutPart, PutNode, laid, PutNodes, Weighs, Light, headBytes, PutHead, PackBegun};
 
 // How many bytes the nodes take in an image, or they are no tree that unpacking would accept.
 pub enum Weighed {
@@ -129,39 +132,66 @@ fn put_nodes(bytes: &[u8], nodes: &[u32], count: usize, out: &mut [u8], from: us
     }
 }
 
-// What stands before the nodes of a pack that fits, or why it is refused; `size` is what the nodes take.
-pub(crate) fn begin_pack(count: usize, size: usize, out: &mut [u8]) -> PackAnswer
-    requires { ⌜ Light count size ⌝ }
-    ensures { λ r. ⌜ PackBegun form1 count (size + 2) (now (out .entry)) r (now (out .exit)) ⌝ }
+// What stands before the nodes: the version, the body's length, in form 2 the line, and the node count.
+fn put_head(form: Form, body: usize, count: usize, out: &mut [u8])
+    requires { ⌜ PutHead form body count (length (now out)) ⌝ }
+    ensures { λ r. ⌜ now (out .exit) ≡ sets (now (out .entry)) 0 (headBytes form body count) ⌝ }
 {
-    let body = size + COUNT;
+    match form {
+        Form::One => put_front(out, 0, FORM_1, body, count),
+        Form::Two(line) => {
+            put_front(out, 0, FORM_2, body, of_half(line));
+            put_word(out, FRONT, count);
+        }
+    }
+}
+
+// What stands before the nodes of a pack that fits, or why it is refused; `size` is what the nodes take.
+pub(crate) fn begin_pack(form: Form, count: usize, size: usize, out: &mut [u8]) -> PackAnswer
+    requires { ⌜ Light count size ⌝ }
+    ensures { λ r. ⌜ PackBegun form count (begins form - 3 + size) (now (out .entry)) r (now (out .exit)) ⌝ }
+{
+    let body = first_node(form) - BODY_AT + size;
     if LONGEST_BODY < body {
         return PackAnswer::Refused(TOO_LONG);
     }
     if out.len() < body + BODY_AT {
         return PackAnswer::Refused(NO_ROOM);
     }
-    put_front(out, 0, FORM_1, body, count);
+    put_head(form, body, count, out);
     PackAnswer::Packed(body + BODY_AT)
 }
 
 // The pack of nodes that were weighed, if it fits.
-fn write_pack(bytes: &[u8], nodes: &[u32], count: usize, size: usize, out: &mut [u8]) -> PackAnswer
+fn write_pack(
+    bytes: &[u8],
+    nodes: &[u32],
+    count: usize,
+    size: usize,
+    form: Form,
+    out: &mut [u8],
+) -> PackAnswer
     requires { ⌜ Weighs (now bytes) (now nodes) count size ⌝ }
-    ensures { λ r. ⌜ PackOutcome form1 (now (bytes .entry)) (now (nodes .entry)) count (now (out .entry)) r (now (out .exit)) ⌝ }
+    ensures { λ r. ⌜ PackOutcome form (now (bytes .entry)) (now (nodes .entry)) count (now (out .entry)) r (now (out .exit)) ⌝ }
 {
-    match begin_pack(count, size, out) {
+    match begin_pack(form, count, size, out) {
         PackAnswer::Refused(fault) => PackAnswer::Refused(fault),
         PackAnswer::Packed(length) => {
-            put_nodes(bytes, nodes, count, out, FRONT);
+            put_nodes(bytes, nodes, count, out, first_node(form));
             PackAnswer::Packed(length)
         }
     }
 }
 
-// The pack, in form 1, of the nodes that the numbers name: four each, with the spelling as a part of the bytes.
-pub fn pack_nodes(bytes: &[u8], nodes: &[u32], count: usize, out: &mut [u8]) -> PackAnswer
-    ensures { λ r. ⌜ PackOutcome form1 (now (bytes .entry)) (now (nodes .entry)) count (now (out .entry)) r (now (out .exit)) ⌝ }
+// The pack of the nodes that the numbers name: four each, with the spelling as a part of the bytes.
+pub fn pack_nodes(
+    bytes: &[u8],
+    nodes: &[u32],
+    count: usize,
+    form: Form,
+    out: &mut [u8],
+) -> PackAnswer
+    ensures { λ r. ⌜ PackOutcome form (now (bytes .entry)) (now (nodes .entry)) count (now (out .entry)) r (now (out .exit)) ⌝ }
 {
     if MOST_NODES < count {
         return PackAnswer::Refused(NO_PACK);
@@ -171,6 +201,6 @@ pub fn pack_nodes(bytes: &[u8], nodes: &[u32], count: usize, out: &mut [u8]) -> 
     }
     match weigh(bytes, nodes, count) {
         Weighed::NoTree => PackAnswer::Refused(NO_PACK),
-        Weighed::Bytes(size) => write_pack(bytes, nodes, count, size, out),
+        Weighed::Bytes(size) => write_pack(bytes, nodes, count, size, form, out),
     }
 }

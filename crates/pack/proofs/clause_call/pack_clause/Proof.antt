@@ -12,18 +12,18 @@ use Rattle.reader.specs.LineCall.{ReadTree}
 use Rattle.reader.specs.declared.clause.ClauseAnswer.{ClauseAnswer}
 use Rattle.reader.specs.declared.clause.ClauseAnswer.the-variants.{Read, Refused}
 use Rattle.reader.proofs.Theorems.{clause-refused, clause-back, clause-front}
-use Rattle.pack.specs.Image.{form1}
 use Rattle.pack.specs.ClauseCall as L
 use Rattle.pack.specs.ClauseCall.{ClausePack}
+use Rattle.pack.specs.declared.format.Form.{Form}
 use Rattle.pack.specs.declared.answers.ClausePackAnswer.{ClausePackAnswer}
 use Rattle.pack.proofs.clause_call.pack_clause.Statement.{statement}
 use Rattle.pack.proofs.clause_call.pack_clause.Tie as tie
 
 module _ (s : List ℕ) (c : Cursor) (tree : List ℕ) (n : length tree ≡ 2048) where
-  refused : (d : List ℕ) (w : Fault) (k : Cursor) (a : ClauseAnswer) (x : List ℕ) → Outcome s c tree a x → a ≡ Refused w k → ClausePack form1 s c d (ClausePackAnswer.Refused w k) d
-  refused d w k a x o h =
+  refused : (f : Form) (d : List ℕ) (w : Fault) (k : Cursor) (a : ClauseAnswer) (x : List ℕ) → Outcome s c tree a x → a ≡ Refused w k → ClausePack f s c d (ClausePackAnswer.Refused w k) d
+  refused f d w k a x o h =
       let b = clause-back s c tree (subst (λ (z : ClauseAnswer). Outcome s c tree z x) h o) in
-      subst (λ (z : Cursor). ClausePack form1 s c d (ClausePackAnswer.Refused w z) d) (sym b) (L.refused (clause-refused s c tree (omega arith) w k a x o h))
+      subst (λ (z : Cursor). ClausePack f s c d (ClausePackAnswer.Refused w z) d) (sym b) (L.refused (clause-refused s c tree (omega arith) w k a x o h))
 
   read-tree : (a : ClauseAnswer) (x : List ℕ) (nodes : ℕ) (e : Cursor) → Outcome s c tree a x → a ≡ Read nodes e → ReadTree s c x nodes e
   read-tree = clause-front s c tree

@@ -4,22 +4,25 @@ use mathlib.Core.Path.{_≡_, sym, _∙_, ap, subst}
 use mathlib.Core.List.{List, _++_, append-nil}
 use native.Mathlib.Omega.{arith}
 use borrow.Author.Needs.{needs}
-use lib.ListN.{length, drop, take-append-drop}
+use lib.ListN.{length, getD, drop, take-append-drop}
 use lib.Seq.{length-take-le}
 use Rattle.lexer.specs.declared.cursor.Cursor.{Cursor}
 use Rattle.lexer.specs.declared.refusal.Fault.{Fault}
 use Rattle.reader.specs.Tree.{numbers}
+use Rattle.reader.specs.Clause.{firstOffset}
 use Rattle.reader.specs.Listing.{Within, Source}
 use Rattle.reader.specs.LineCall.{ReadTree, Spanning, Spans}
-use Rattle.reader.proofs.Theorems.{clause-within, span-part, span-source}
+use Rattle.reader.proofs.Theorems.{clause-within, span-first, span-part, span-source}
 use Rattle.pack.specs.Node.{Node, mostNodes}
-use Rattle.pack.specs.Image.{form1}
-use Rattle.pack.specs.ClauseCall.{packNodes, sourceOf, clauseNodes, ClauseAt, ClausePack}
-use Rattle.pack.specs.Passes.{Wrote}
-use Rattle.pack.specs.Walk.{Lying, nothing, Walk, nodesOf}
+use Rattle.pack.specs.Calls.{Written}
+use Rattle.pack.specs.ClauseCall.{packNodes, sourceOf, clauseNodes, ClauseAt, formAt, clauseForm, told, ClausePack, written}
+use Rattle.pack.specs.Passes.{mostHalf, Widened}
+use Rattle.pack.specs.Walk.{Lying, nothing, Walk, nodesOf, Ahead}
+use Rattle.pack.specs.declared.format.Form.{Form}
+use Rattle.pack.specs.declared.format.Version.{Version}
 use Rattle.pack.specs.declared.answers.PackAnswer.{PackAnswer}
 use Rattle.pack.specs.declared.answers.ClausePackAnswer.{ClausePackAnswer}
-use Rattle.pack.proofs.Clauses.{size, numbers-size, clause-size, lying-tree, spanned, nodes-tree, nodes-same, clause-refused, clause-packed}
+use Rattle.pack.proofs.Clauses.{size, numbers-size, clause-size, lying-tree, spanned, nodes-tree, nodes-same, clause-ahead}
 use Rattle.pack.proofs.clause_call.pack_read.Statement.{statement}
 use Rattle.pack.proofs.clause_call.pack_read.Tie as tie
 
@@ -70,17 +73,28 @@ module _ (s : List ℕ) (c : Cursor) (ms : List ℕ) (nodes : ℕ) (e : Cursor) 
         ∙ nodes-same (length (w .tokens)) (spanned s starts ends) (sourceOf s (w .tokens))
         (span-part s c (w .tokens) e (w .valid-cursor) (w .gathered) starts ends p) (w .tree) within
 
-    module _ (d d′ : List ℕ) (r : PackAnswer) (o : Wrote form1 (nodesOf s starts ends nodes ms) d r d′) where
-      its-pack : (z : PackAnswer) → r ≡ z → Wrote form1 (clauseNodes s (w .tokens) (w .tree)) d z d′
-      its-pack z x = subst (λ (l : List Node). Wrote form1 l d z d′) nodes-are (subst (λ (k : PackAnswer). Wrote form1 (nodesOf s starts ends nodes ms) d k d′) x o)
+    module _ (o : ℕ) (q : Widened mostHalf (getD starts 0 0) o) where
+      first-is : o ≡ firstOffset s c
+      first-is = q .same ∙ span-first s c (w .tokens) e (w .valid-cursor) (w .gathered) starts ends p
 
-      refused : (q : Fault) → r ≡ PackAnswer.Refused q → ClausePack form1 s c d (ClausePackAnswer.Refused q c) d′
-      refused q x = clause-refused form1 s c d (w .tokens) e (w .tree) at (its-pack (PackAnswer.Refused q) x)
+      ahead : Ahead s c o
+      ahead = subst (Ahead s c) (sym first-is) (clause-ahead s c (w .tokens) e (w .tree) at)
 
-      packed : (n : ℕ) → r ≡ PackAnswer.Packed n → ClausePack form1 s c d (ClausePackAnswer.Packed n e) d′
-      packed n x = clause-packed form1 s c d (w .tokens) e (w .tree) at (its-pack (PackAnswer.Packed n) x)
+      module _ (v : Version) (form : Form) (k : form ≡ formAt v s c o) (d d′ : List ℕ) (r : PackAnswer) (h : Written form (nodesOf s starts ends nodes ms) d r d′) where
+        its-pack : Written (clauseForm v s c) (clauseNodes s (w .tokens) (w .tree)) d r d′
+        its-pack =
+            subst (λ (z : List Node). Written (clauseForm v s c) z d r d′) nodes-are
+            (subst (λ (z : Form). Written z (nodesOf s starts ends nodes ms) d r d′) (k ∙ ap (formAt v s c) first-is) h)
 
-ruleset ways = (spanning, walk, refused, packed, needs)
+        refused : (x : Fault) → r ≡ PackAnswer.Refused x → ClausePack (clauseForm v s c) s c d (ClausePackAnswer.Refused x c) d′
+        unfolding told
+        refused x y = written at (subst (λ (z : PackAnswer). Written (clauseForm v s c) (clauseNodes s (w .tokens) (w .tree)) d z d′) y its-pack)
+
+        packed : (n : ℕ) → r ≡ PackAnswer.Packed n → ClausePack (clauseForm v s c) s c d (ClausePackAnswer.Packed n e) d′
+        unfolding told
+        packed n y = written at (subst (λ (z : PackAnswer). Written (clauseForm v s c) (clauseNodes s (w .tokens) (w .tree)) d z d′) y its-pack)
+
+ruleset ways = (spanning, walk, ahead, refused, packed, needs)
 
 -- answers
 slice-aggregate-span-tokens : tie.Need-slice-aggregate-span-tokens
@@ -91,6 +105,15 @@ slice-aggregate-span-tokens-2 c = search ways
 
 span-tokens-requires : tie.Need-span-tokens-requires
 span-tokens-requires c κs = search ways
+
+array-read-of-half : tie.Need-array-read-of-half
+array-read-of-half c = search ways
+
+of-half-requires : tie.Need-of-half-requires
+of-half-requires c κs = search ways
+
+form-at-requires : tie.Need-form-at-requires
+form-at-requires c κs = search ways
 
 slice-aggregate-pack-tree : tie.Need-slice-aggregate-pack-tree
 slice-aggregate-pack-tree c = search ways
@@ -126,6 +149,9 @@ pack-read-spec =
     slice-aggregate-span-tokens
     slice-aggregate-span-tokens-2
     span-tokens-requires
+    array-read-of-half
+    of-half-requires
+    form-at-requires
     slice-aggregate-pack-tree
     slice-aggregate-pack-tree-2
     pack-tree-requires

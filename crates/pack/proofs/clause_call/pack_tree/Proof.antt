@@ -1,16 +1,18 @@
 -- `pack::clause_call::pack_tree` meets its contract. Assumes nothing.
-use Prim.Native.Nat.{ℕ, _+_}
-use mathlib.Core.Path.{_≡_}
+use Prim.Native.Nat.{ℕ, _+_, _-_}
+use mathlib.Core.Path.{_≡_, ap, _∙_}
 use mathlib.Core.List.{List}
 use native.Mathlib.Omega.{arith}
 use borrow.Author.Needs.{needs}
 use lib.ListN.{length}
 use lib.Seq.{sets}
-use Rattle.pack.specs.Node.{Node}
-use Rattle.pack.specs.Image.{nodesBytes, form1, lineBytes, body}
-use Rattle.pack.specs.Passes.{Light, PackBegun, Wrote}
-use Rattle.pack.specs.Walk.{Walk, SomeWalk, TreeWeighs, nodesOf, PutTree}
 use Rattle.lexer.specs.declared.refusal.Fault.{Fault}
+use Rattle.pack.specs.Node.{Node}
+use Rattle.pack.specs.Image.{nodesBytes, body}
+use Rattle.pack.specs.Calls.{begins, Written}
+use Rattle.pack.specs.Passes.{Light, PackBegun}
+use Rattle.pack.specs.Walk.{Walk, SomeWalk, TreeWeighs, nodesOf, PutTree}
+use Rattle.pack.specs.declared.format.Form.{Form}
 use Rattle.pack.specs.declared.answers.PackAnswer.{PackAnswer}
 use Rattle.pack.proofs.Images.{body-length}
 use Rattle.pack.proofs.Packs.{begun-refused, begun-packed, begun-roomy}
@@ -32,23 +34,22 @@ module _ (s ms : List ℕ) (count : ℕ) (starts ends : List ℕ) (w : Walk s ms
     light : Light count size
     light = record { few = omega (arith, w .near); light = t .light }
 
-    body-is : length (body form1 nodes) ≡ size + 2
-    unfolding lineBytes
-    body-is = omega (arith, body-length form1 nodes, t .same, weight-is s starts ends (w .source) (w .lying))
+    module _ (f : Form) where
+      body-is : length (body f nodes) ≡ begins f - 3 + size
+      body-is = omega (arith, body-length f nodes, t .same, weight-is s starts ends (w .source) (w .lying))
 
-    module _ (d d′ : List ℕ) (r : PackAnswer) (o : PackBegun form1 count (size + 2) d r d′) where
-      refused : (q : Fault) → r ≡ PackAnswer.Refused q → Wrote form1 nodes d (PackAnswer.Refused q) d′
-      refused = begun-refused form1 nodes count (size + 2) count-is body-is d d′ r o
+      module _ (d d′ : List ℕ) (r : PackAnswer) (o : PackBegun f count (begins f - 3 + size) d r d′) where
+        refused : (q : Fault) → r ≡ PackAnswer.Refused q → Written f nodes d (PackAnswer.Refused q) d′
+        refused = begun-refused f nodes count (begins f - 3 + size) count-is body-is d d′ r o
 
-      module _ (l : ℕ) (x : r ≡ PackAnswer.Packed l) where
-        tree-asked : PutTree s ms count starts ends (length d′) 5
-        tree-asked =
-            let m = begun-roomy form1 nodes count (size + 2) count-is body-is d d′ r o l x in
-            record { walk = w; fits = omega (arith, t .same, m .fits); small = omega (arith, t .same, m .small) }
+        module _ (l : ℕ) (x : r ≡ PackAnswer.Packed l) (at : ℕ) (e : at ≡ begins f) where
+          tree-asked : PutTree s ms count starts ends (length d′) at
+          tree-asked =
+              let m = begun-roomy f nodes count (begins f - 3 + size) count-is body-is d d′ r o l x in
+              record { walk = w; fits = omega (arith, e, t .same, m .fits); small = omega (arith, e, t .same, m .small) }
 
-        packed : (d″ : List ℕ) → d″ ≡ sets d′ 5 (nodesBytes nodes) → Wrote form1 nodes d (PackAnswer.Packed l) d″
-        unfolding lineBytes
-        packed = begun-packed form1 nodes count (size + 2) count-is body-is d d′ r o l x
+          packed : (d″ : List ℕ) → d″ ≡ sets d′ at (nodesBytes nodes) → Written f nodes d (PackAnswer.Packed l) d″
+          packed d″ y = begun-packed f nodes count (begins f - 3 + size) count-is body-is d d′ r o l x d″ (y ∙ ap (λ (k : ℕ). sets d′ k (nodesBytes nodes)) e)
 
 ruleset ways = (some-walk, light, refused, tree-asked, packed, needs)
 
@@ -64,6 +65,9 @@ enum-known-fault c = search ways
 
 enum-known-length : tie.Need-enum-known-length
 enum-known-length c = search ways
+
+first-node-requires : tie.Need-first-node-requires
+first-node-requires c κs = search ways
 
 put-tree-requires : tie.Need-put-tree-requires
 put-tree-requires c κs = search ways
@@ -88,6 +92,7 @@ pack-tree-spec =
     begin-pack-requires
     enum-known-fault
     enum-known-length
+    first-node-requires
     put-tree-requires
     same-length
     returns

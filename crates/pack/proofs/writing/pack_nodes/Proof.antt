@@ -5,7 +5,7 @@ use mathlib.Core.List.{List}
 use native.Mathlib.Omega.{arith}
 use borrow.Author.Needs.{needs}
 use lib.ListN.{length}
-use Rattle.pack.specs.Image.{form1}
+use Rattle.pack.specs.declared.format.Form.{Form}
 use Rattle.pack.specs.Calls.{PackOutcome}
 use Rattle.pack.specs.Passes.{weighed, Weighing, Weighs}
 use Rattle.lexer.specs.Refusal.{fault}
@@ -16,18 +16,18 @@ use Rattle.pack.proofs.Packs.{pack-many, pack-few, pack-no-tree}
 use Rattle.pack.proofs.writing.pack_nodes.Statement.{statement}
 use Rattle.pack.proofs.writing.pack_nodes.Tie as tie
 
-module _ (bytes ns : List ℕ) (count : ℕ) where
-  many : (d : List ℕ) → 1023 < count → PackOutcome form1 bytes ns count d (PackAnswer.Refused (fault NoPack 0)) d
-  many d h = pack-many form1 bytes ns count d h
+module _ (f : Form) (bytes ns : List ℕ) (count : ℕ) where
+  many : (d : List ℕ) → 1023 < count → PackOutcome f bytes ns count d (PackAnswer.Refused (fault NoPack 0)) d
+  many d h = pack-many f bytes ns count d h
 
-  few : (d : List ℕ) → length ns / 4 < count → PackOutcome form1 bytes ns count d (PackAnswer.Refused (fault NoPack 0)) d
-  few d h = pack-few form1 bytes ns count d (omega arith)
+  few : (d : List ℕ) → length ns / 4 < count → PackOutcome f bytes ns count d (PackAnswer.Refused (fault NoPack 0)) d
+  few d h = pack-few f bytes ns count d (omega arith)
 
-  no-tree : (d : List ℕ) (r : Weighed) → r ≡ weighed bytes count 0 0 ns → r ≡ Weighed.NoTree → PackOutcome form1 bytes ns count d (PackAnswer.Refused (fault NoPack 0)) d
-  no-tree d r e f = pack-no-tree form1 bytes ns count d (sym e ∙ f)
+  no-tree : (d : List ℕ) (r : Weighed) → r ≡ weighed bytes count 0 0 ns → r ≡ Weighed.NoTree → PackOutcome f bytes ns count d (PackAnswer.Refused (fault NoPack 0)) d
+  no-tree d r e g = pack-no-tree f bytes ns count d (sym e ∙ g)
 
-  weighs : (size : ℕ) (r : Weighed) → count ≤ 1023 → count ≤ length ns / 4 → r ≡ weighed bytes count 0 0 ns → r ≡ Weighed.Bytes size → Weighs bytes ns count size
-  weighs size r m h e f = record { weighs = sym e ∙ f; inside = omega arith; few = m }
+weighs : (bytes ns : List ℕ) (count size : ℕ) (r : Weighed) → count ≤ 1023 → count ≤ length ns / 4 → r ≡ weighed bytes count 0 0 ns → r ≡ Weighed.Bytes size → Weighs bytes ns count size
+weighs bytes ns count size r m h e g = record { weighs = sym e ∙ g; inside = omega arith; few = m }
 
 weighing : (ns : List ℕ) (count : ℕ) → count ≤ 1023 → count ≤ length ns / 4 → Weighing ns count
 weighing ns count m h = record { inside = omega arith; few = m }
