@@ -9,6 +9,8 @@ FILL = 165
 TREE_FILL = 43690
 # the longest body
 MOST_LENGTH = 70000
+# the letters whose body is no text
+NO_TEXT = "ukKmM"
 STORED = ROOT / "crates" / "probe" / "stdin"
 
 
