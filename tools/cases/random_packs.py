@@ -1,12 +1,18 @@
-"""Random nodes and images, whole and damaged, for `hold-packs`."""
+"""Random nodes and images of both forms, whole and damaged, for `hold-packs`."""
 import grammar
 import packs
 
 SPELLINGS = (b"", b"a", b"-", b",", b"[", b"\0", b"\xff", b"-1", b"'a b'", bytes(range(256)), b"n" * 300)
 KINDS = (*range(12), 255)
+VERSIONS = (0, 1, 2, 3, 255)
 EDGES = (0, 1, 2, 3, 255, 256, 1022, 1023, 1024, 65534, 65535)
 LEAVES = [kind for kind, (least, _) in packs.ARITIES.items() if least == 0]
 WIDE = [kind for kind, (_, most) in packs.ARITIES.items() if most == packs.ANY]
+
+
+def with_line(dice):
+    """A form 2."""
+    return 2, dice.choice((*EDGES, dice.randrange(65536)))
 
 
 def parent(dice, standing):
@@ -52,8 +58,8 @@ def spoilt(dice, nodes):
 
 def fields(image):
     """Where the two-byte numbers of a pack stand."""
-    yield from (1, 3)
-    for _, _, start, _ in packs.unpacked(image):
+    yield from (1, 3, packs.COUNT_AT[image[0]])
+    for _, _, start, _ in packs.unpacked(image)[1]:
         yield from (start - 4, start - 2)
 
 
@@ -68,7 +74,7 @@ def damaged(dice, image):
         lambda: image[:at] + bytes([dice.choice((0, image[at], dice.randrange(256)))]) + image[at:],
         lambda: image[:at] + image[at + 1:],
         lambda: image[:at],
-        lambda: bytes([dice.choice((0, 2, 255))]) + image[1:],
+        lambda: bytes([dice.choice((*VERSIONS, dice.randrange(256)))]) + image[1:],
         lambda: image + image[:dice.randrange(1, 6)],
         lambda: image[:field] + packs.two(other) + image[field + 2:],
         lambda: image[:field] + packs.two(other) + image[field + 2:],
