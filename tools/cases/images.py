@@ -7,8 +7,8 @@ from probe import MOST_LENGTH, START
 
 # a form 2 whose line has two bytes
 FORM_2 = (2, 515)
-# the letters by the version that they write, or read and move
-CLAUSE, PACK, MOVE = {1: "p", 2: "P"}, {1: "k", 2: "K"}, {1: "m", 2: "M"}
+# the letters that pack nodes in a form and that move an image of a form, by its version
+PACK, MOVE = {1: "k", 2: "K"}, {1: "m", 2: "M"}
 CLAUSES = ("  f(a, B, \"c\").", " [a, b|C] = {x} .", " a :- b, \\+ c.\n", " - 1 ^ -2 .", " '-'1 , ',' .", " [] , {} .", "\r\n'a\\\nb'(-0x1F).\r\n", " x y .")
 # with two that are none
 KINDS = range(12)
