@@ -43,16 +43,16 @@ extern "C" {
 #define THRINVAGE_MOST_TOKENS 1024
 #define THRINVAGE_MOST_NODES 1023
 
-/* Room that always serves: numbers for a clause's tree, bytes for its line and for an image, and numbers for an image's nodes. A scratch of
- * THRINVAGE_LONGEST_TEXT bytes always serves too. */
+/* Room that always serves: numbers for a clause's tree, bytes for its line and for an image of either form, and numbers for an image's nodes. A scratch
+ * of THRINVAGE_LONGEST_TEXT bytes always serves too. */
 #define THRINVAGE_TREE_NUMBERS 2048
 #define THRINVAGE_LINE_BYTES 70650
 #define THRINVAGE_IMAGE_BYTES 65538
 #define THRINVAGE_NODE_NUMBERS 4092
 
-/* What a function returns: 0 where it read or packed what it was asked for, else the number of the refusal. The offset that a refusal points at is
+/* What a function returns: 0 where it read, packed or moved what it was asked for, else the number of the refusal. The offset that a refusal points at is
  * put in the struct's field `refused_at`, and nothing else is written: the struct's other fields stay, and so do a lent scratch, tree, line or image.
- * A function that is lent no struct writes nothing when it refuses: each of its refusals is at 0. */
+ * A function that is lent no struct with this field writes nothing when it refuses: each of its refusals is at 0. */
 enum thrinvage_refusal {
     THRINVAGE_READ = 0,
     THRINVAGE_END_OF_TEXT = 1,      /* a rule needs a character and the text has ended; at the text's length */
@@ -68,7 +68,8 @@ enum thrinvage_refusal {
     THRINVAGE_NO_READING = 11,      /* the grammar has no reading of the clause; at its first token */
     THRINVAGE_NO_TEXT = 12,         /* the token is no name, variable or string; at it */
     THRINVAGE_TOO_LONG = 13,        /* an image's body would pass 65,535 bytes; at 0 */
-    THRINVAGE_NO_PACK = 14          /* the bytes are no image, or the nodes are none that an image can have (below); at 0 */
+    THRINVAGE_NO_PACK = 14,         /* the bytes are no image, or the nodes are none that an image can have (below); at 0 */
+    THRINVAGE_UNKNOWN_VERSION = 18  /* an image's first byte is no version that this function knows; at 0 */
 };
 
 /* The limits of refusal 7: an integer is at most 9,223,372,036,854,775,807; the code of an escape is 1 to 127; the digits of a float, read as one
@@ -124,7 +125,7 @@ enum thrinvage_node {
     THRINVAGE_EMPTY_CURLY = 9  /* {} */
 };
 
-/* The structs begin with the cursor behind what was read: hand it back in to go on. A text starts at 0, 0, 0. */
+/* These structs begin with the cursor behind what was read: hand it back in to go on. A text starts at 0, 0, 0. */
 struct thrinvage_token {
     uint64_t offset;     /* of the cursor behind the token, where its span ends */
     uint64_t line;       /* newlines (byte 10) before that cursor */
@@ -179,8 +180,9 @@ uint32_t thrinvage_list_clause(const uint8_t *text, size_t length, size_t offset
  * An image is one clause's tree, spellings and all, in one piece: what unpacks it needs neither the text nor an operator table. It is of these bytes,
  * numbers big-endian:
  *
- *   1 byte    the version, 1
+ *   1 byte    the version: 1 or 2, which is the image's form
  *   2 bytes   the length of the body, which is all that follows: at most 65,535
+ *   2 bytes   in form 2 alone: the line field
  *   2 bytes   the count of nodes: 1 to 1,023
  *   and then, for each node, children left to right, then their parent, the root last:
  *   1 byte    its kind (enum thrinvage_node)
@@ -188,9 +190,14 @@ uint32_t thrinvage_list_clause(const uint8_t *text, size_t length, size_t offset
  *   2 bytes   the length of its spelling
  *   the spelling
  *
- * So an image tells its own length, 3 bytes and the body, and images that stand one behind another can be parted. `a(-1).` is packed to these 18 bytes:
+ * So an image tells its own length, 3 bytes and the body, and images that stand one behind another can be parted, also where both forms are among them:
+ * the length stands in the same place in both. `a(-1).` on the third line of a text is packed to these 18 bytes in form 1, and to these 20 in form 2:
  *
- *   01  00 0f  00 02    01  00 00  00 02  2d 31    02  00 01  00 01  61
+ *   01  00 0f         00 02    01  00 00  00 02  2d 31    02  00 01  00 01  61
+ *   02  00 11  00 03  00 02    01  00 00  00 02  2d 31    02  00 01  00 01  61
+ *
+ * The line field is the line on which the clause's first token starts, as editors count: the first line is 1. It is 0 where the line is not known. Any
+ * number is accepted, 0 to 65,535, and nobody judges it: it is for logs.
  *
  * A node's spelling is its token's bytes as they stand in the text, quotes and escapes too: nothing is decoded. That of a negative number runs from its
  * minus to the number's end; that of a list, empty or not, is `[`, that of curly brackets `{`, and that of the infix comma `,`.
@@ -204,25 +211,62 @@ uint32_t thrinvage_list_clause(const uint8_t *text, size_t length, size_t offset
  * what a stranger made, or the link has damaged, can unpack too, and be no clause or another one. Who must know whether it is a clause writes it as a
  * text and reads that; who must notice damage sends a check sum along.
  *
- * Refusals of packing and unpacking come in this order: 14, 13, 9. */
+ * Masts in the field speak form 1, and a program that does so stays as it is: thrinvage_pack_clause and thrinvage_pack_nodes write form 1, and
+ * thrinvage_unpack reads form 1 alone, as they always did. It refuses an image of form 2 by its version byte, with 14 as ever, and shows nothing of it.
+ * What is new for form 2 has names of its own: two functions that write it, one that reads either form, and two that move an image from one form to the
+ * other, for a desk with form 2 and a mast with form 1.
+ *
+ * Refusals of packing, unpacking and moving come in this order: 18, 14, 13, 9. Bytes that are none at all have no version, so they get 14. */
 
-/* The clause behind the cursor as an image, at the front of `out`, which has `room` bytes: the struct's `count` is the image's length. The refusals of
- * thrinvage_read_clause but for 9 come first, with their offsets; then 13 and 9, at 0; 14 never. A clause that is too long for an image (13) is stepped
- * over by thrinvage_read_clause. */
+/* The clause behind the cursor as an image of form 1, at the front of `out`, which has `room` bytes: the struct's `count` is the image's length. The
+ * refusals of thrinvage_read_clause but for 9 come first, with their offsets; then 13 and 9, at 0; 14 and 18 never. A clause that is too long for an
+ * image (13) is stepped over by thrinvage_read_clause. */
 uint32_t thrinvage_pack_clause(const uint8_t *text, size_t length, size_t offset, size_t line, size_t column, uint8_t *out, size_t room,
                                struct thrinvage_clause *clause);
 
-/* `count` nodes as an image, at the front of `out`, which has `room` bytes: *packed is the image's length. A node is four numbers: kind, arity, and the
- * start and the length of its spelling, which is a part of the lent `bytes`; the start counts from the first of them. `numbers` counts the numbers of
+/* The same in form 2. The line field is counted on from the cursor: its line, and the newlines from there to the first token, plus one. It always fits,
+ * and is never 0. The struct's `line` is another: that of the cursor behind the end mark. The longest clauses of form 1, with a body of 65,534 or 65,535
+ * bytes, are too long here (13). */
+uint32_t thrinvage_pack_clause_form_2(const uint8_t *text, size_t length, size_t offset, size_t line, size_t column, uint8_t *out, size_t room,
+                                      struct thrinvage_clause *clause);
+
+/* `count` nodes as an image of form 1, at the front of `out`, which has `room` bytes: *packed is the image's length. A node is four numbers: kind, arity,
+ * and the start and the length of its spelling, which is a part of the lent `bytes`; the start counts from the first of them. `numbers` counts those of
  * `nodes`. Refusal 14 is for nodes that no image has, for a spelling that is no part of the bytes or is longer than 65,535, and for a count that is 0,
  * over 1,023 or over a quarter of `numbers`. */
 uint32_t thrinvage_pack_nodes(const uint8_t *bytes, size_t length, const uint32_t *nodes, size_t numbers, size_t count, uint8_t *out, size_t room,
                               uint64_t *packed);
 
-/* The nodes of an image, four numbers each as above, at the front of `nodes`; `room` counts numbers, and *count is the count of nodes. A spelling's start
- * counts from the first byte of the image: hand these nodes to thrinvage_pack_nodes with the image as `bytes`, and the same image comes back.
- * `length` is that of one image: a byte too many is refused by 14, as is one too few. examples/c/receive.c parts messages and prints what they hold. */
+/* The same in form 2. `line` is the line field: the line's number from 1, or 0 where it is not known. */
+uint32_t thrinvage_pack_nodes_form_2(const uint8_t *bytes, size_t length, const uint32_t *nodes, size_t numbers, size_t count, uint16_t line,
+                                     uint8_t *out, size_t room, uint64_t *packed);
+
+/* The nodes of an image of form 1, four numbers each as above, at the front of `nodes`; `room` counts numbers, and *count is the count of nodes. A
+ * spelling's start counts from the first byte of the image: hand these nodes to thrinvage_pack_nodes with the image as `bytes`, and the same image comes
+ * back. `length` is that of one image: a byte too many is refused by 14, as is one too few, and each version but 1. 18 never. */
 uint32_t thrinvage_unpack(const uint8_t *image, size_t length, uint32_t *nodes, size_t room, uint64_t *count);
+
+/* What thrinvage_unpack_either says of an image. */
+struct thrinvage_unpacked {
+    uint64_t form;  /* 1 or 2 */
+    uint64_t line;  /* the line field as it stands; 0 in form 1, which has none */
+    uint64_t count; /* of the nodes */
+};
+
+/* The same for an image of either form: a version that is neither 1 nor 2 is refused by 18, whatever follows it, and then as above. Starts count from the
+ * image's first byte in both forms: hand the nodes of form 1 to thrinvage_pack_nodes, and those of form 2, with their line, to
+ * thrinvage_pack_nodes_form_2, and the same image comes back. examples/c/receive.c parts messages of both forms and prints what they hold. */
+uint32_t thrinvage_unpack_either(const uint8_t *image, size_t length, uint32_t *nodes, size_t room, struct thrinvage_unpacked *unpacked);
+
+/* An image of form 1 moved to form 2, at the front of `out`: *moved is the new image's length, two bytes more than the old one's. The line field is 0,
+ * and all else stays. 18 for any version but 1, 2 among them; then 14; then 13 where the body has 65,534 or 65,535 bytes, so that two more do not fit;
+ * then 9. Moved down again it is the same bytes. */
+uint32_t thrinvage_move_up(const uint8_t *image, size_t length, uint8_t *out, size_t room, uint64_t *moved);
+
+/* An image of form 2 moved to form 1, at the front of `out`: *moved is the new image's length, two bytes less than the old one's. The line is dropped,
+ * and all else stays. 18 for any version but 2, 1 among them; then 14; then 9; 13 never. Moved up again it is the same bytes but for the line field,
+ * which is then 0. */
+uint32_t thrinvage_move_down(const uint8_t *image, size_t length, uint8_t *out, size_t room, uint64_t *moved);
 
 /* Was the last clause cut off? `a. ` and `a. b :- c` both end in refusal 1 at the text's length. Behind the last end mark the first has layout alone, the
  * second has not. So where the clause, the line or the pack call is refused by 1, the text is whole exactly if this function returns 1 at the offset that
