@@ -1,6 +1,9 @@
-/* Unpacks the messages that `send` wrote, and prints the clause of each as a line of the listing.
+/* Unpacks the messages that `send` wrote, of either form, and prints the clause of each as a line of the listing.
  *
- *     receive [FILE]    of a file, or of standard input
+ *     receive [-1] [-l] [FILE]    of a file, or of standard input
+ *
+ * -l: before each clause stand the line on which it starts, and `: `; a question mark where the line is not known, as in form 1.
+ * -1: as a mast in the field, which knows form 1 alone and refuses form 2.
  *
  * A message is printed whole or not at all. The first that is no image ends the program: standard error has the refusal, with the place where the message
  * starts, and the status is 1. Where the next one starts is then not known, since the length may be what is damaged.
@@ -9,13 +12,10 @@
 #include <stdio.h>
 #include <string.h>
 
-#include "thrinvage.h"
+#include "messages.h"
 
 /* The numbers of a node, and how many they are. */
 enum { KIND, ARITY, START, LENGTH, NUMBERS };
-
-/* The version and the length of the rest, which every message has. */
-enum { HEAD = 3 };
 
 /* In the order of enum thrinvage_node: what stands before and behind a node's children, if anything does. */
 static const char OPENS[] = {0, 0, '(', '(', '(', '[', '[', '{', '[', '{'};
@@ -88,35 +88,59 @@ static void print_clause(const uint8_t *image, const uint32_t *nodes, size_t cou
     putchar('\n');
 }
 
-/* The next message, as long as its head says, or as much of it as there is: then unpacking refuses it. */
-static size_t read_message(FILE *file, uint8_t *image) {
-    size_t length = fread(image, 1, HEAD, file);
-    if (length < HEAD)
-        return length;
-    return length + fread(image + HEAD, 1, (size_t)image[1] << 8 | image[2], file);
+static void print_line(uint64_t line) {
+    if (line == 0)
+        fputs("?: ", stdout);
+    else
+        printf("%" PRIu64 ": ", line);
+}
+
+/* What the words ask for. */
+struct options {
+    int form_1;
+    int lines;
+};
+
+/* The reader of form 1 alone leaves the line as it is: 0, for not known. */
+static uint32_t unpack(const struct messages *m, int form_1, uint32_t *nodes, struct thrinvage_unpacked *unpacked) {
+    if (form_1)
+        return thrinvage_unpack(m->image, m->length, nodes, THRINVAGE_NODE_NUMBERS, &unpacked->count);
+    return thrinvage_unpack_either(m->image, m->length, nodes, THRINVAGE_NODE_NUMBERS, unpacked);
 }
 
 /* Returns 0 where every message was unpacked. */
-static int print_messages(FILE *file) {
-    static uint8_t image[THRINVAGE_IMAGE_BYTES];
+static int print_messages(FILE *file, struct options options) {
+    static struct messages m;
     static uint32_t nodes[THRINVAGE_NODE_NUMBERS];
-    uint64_t at = 0, count = 0;
-    uint32_t number = THRINVAGE_READ;
-    size_t length;
-    while (number == THRINVAGE_READ && (length = read_message(file, image)) > 0) {
-        number = thrinvage_unpack(image, length, nodes, THRINVAGE_NODE_NUMBERS, &count);
+    struct thrinvage_unpacked unpacked = {0};
+    m.file = file;
+    while (next_message(&m)) {
+        uint32_t number = unpack(&m, options.form_1, nodes, &unpacked);
         if (number != THRINVAGE_READ)
-            fprintf(stderr, "refused %" PRIu32 " at %" PRIu64 "\n", number, at);
-        else
-            print_clause(image, nodes, count);
-        at += length;
+            return refuse_message(&m, number);
+        if (options.lines)
+            print_line(unpacked.line);
+        print_clause(m.image, nodes, unpacked.count);
     }
-    return number != THRINVAGE_READ;
+    return 0;
+}
+
+/* Whether the word is one of the options, which it then sets. */
+static int is_option(const char *word, struct options *options) {
+    int form_1 = strcmp(word, "-1") == 0, lines = strcmp(word, "-l") == 0;
+    options->form_1 |= form_1;
+    options->lines |= lines;
+    return form_1 || lines;
 }
 
 int main(int count, char **words) {
-    FILE *file = count < 2 ? stdin : fopen(words[1], "rb");
-    int refused = file != NULL && print_messages(file);
+    struct options options = {0};
+    FILE *file;
+    int refused;
+    for (; count > 1 && is_option(words[1], &options); count--)
+        words++;
+    file = count < 2 ? stdin : fopen(words[1], "rb");
+    refused = file != NULL && print_messages(file, options);
     if (file == NULL || ferror(file)) {
         perror(count < 2 ? "standard input" : words[1]);
         return 2;

@@ -1,21 +1,21 @@
-//! Unpacks the messages that `send` wrote, and prints the clause of each as a line of the listing.
+//! Unpacks the messages that `send` wrote, of either form, and prints the clause of each as a line of the listing.
 //!
 //! ```text
-//! receive [FILE]    of a file, or of standard input
+//! receive [-1] [-l] [FILE]    of a file, or of standard input
 //! ```
+//!
+//! -l: before each clause stand the line on which it starts, and `: `; a question mark where the line is not known, as in form 1.
+//! -1: as a mast in the field, which knows form 1 alone and refuses form 2.
 //!
 //! A message is printed whole or not at all. The first that is no image ends the program: standard error has the refusal, with the place where the message
 //! starts, and the status is 1. Where the next one starts is then not known, since the length may be what is damaged.
+mod messages;
 mod thrinvage;
 
+use messages::answer_messages;
 use std::env::args;
-use std::fs::File;
-use std::io::{Read, Result, Write, stdin, stdout};
 use std::process::ExitCode;
-use thrinvage::{NODE_NUMBERS, Node, NodeKind, Unpacked, unpack};
-
-/// The version and the length of the rest, which every message has.
-const HEAD: usize = 3;
+use thrinvage::{Form, NODE_NUMBERS, Node, NodeKind, Unpacked, unpack, unpack_either};
 
 /// What stands before and behind a node's children, if anything does.
 fn brackets(kind: NodeKind) -> Option<(u8, u8)> {
@@ -72,50 +72,40 @@ fn shown_clause(unpacked: Unpacked) -> Vec<u8> {
     backwards
 }
 
-/// The next message, as long as its head says, or as much of it as there is: then unpacking refuses it.
-fn read_message(file: &mut impl Read) -> Result<Vec<u8>> {
-    let mut image = Vec::new();
-    file.take(HEAD as u64).read_to_end(&mut image)?;
-    if let [_, high, low] = image[..] {
-        file.take(u16::from_be_bytes([high, low]) as u64).read_to_end(&mut image)?;
-    }
-    Ok(image)
+/// What the words ask for.
+#[derive(Default)]
+struct Options {
+    form_1: bool,
+    lines: bool,
 }
 
-/// Whether every message was unpacked.
-fn print_messages(out: &mut impl Write, file: &mut impl Read) -> Result<bool> {
-    let mut nodes = [0; NODE_NUMBERS];
-    let mut at = 0;
-    loop {
-        let image = read_message(file)?;
-        if image.is_empty() {
-            return Ok(true);
+impl Options {
+    /// Whether the word is one of the options, which it then sets.
+    fn take(&mut self, word: &str) -> bool {
+        match word {
+            "-1" => self.form_1 = true,
+            "-l" => self.lines = true,
+            _ => return false,
         }
-        match unpack(&image, &mut nodes) {
-            Ok(unpacked) => out.write_all(&[shown_clause(unpacked).as_slice(), b"\n"].concat())?,
-            Err(refusal) => {
-                eprintln!("refused {} at {at}", refusal.number);
-                return Ok(false);
-            }
-        }
-        at += image.len();
+        true
     }
-}
 
-fn run(name: Option<String>) -> Result<bool> {
-    let mut file: Box<dyn Read> = match name {
-        Some(name) => Box::new(File::open(name)?),
-        None => Box::new(stdin()),
-    };
-    print_messages(&mut stdout().lock(), &mut file)
+    /// What stands before a clause.
+    fn front(&self, form: Form) -> String {
+        match form {
+            _ if !self.lines => String::new(),
+            Form::One | Form::Two(0) => "?: ".into(),
+            Form::Two(line) => format!("{line}: "),
+        }
+    }
 }
 
 fn main() -> ExitCode {
-    match run(args().nth(1)) {
-        Ok(whole) => ExitCode::from(!whole as u8),
-        Err(error) => {
-            eprintln!("{error}");
-            ExitCode::from(2)
-        }
-    }
+    let (mut options, mut words) = (Options::default(), args().skip(1).peekable());
+    while words.next_if(|word| options.take(word)).is_some() {}
+    let mut nodes = [0; NODE_NUMBERS];
+    answer_messages(words.next(), |image| {
+        let unpacked = if options.form_1 { unpack(image, &mut nodes) } else { unpack_either(image, &mut nodes) }?;
+        Ok([options.front(unpacked.form()).as_bytes(), &shown_clause(unpacked), b"\n"].concat())
+    })
 }

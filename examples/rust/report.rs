@@ -11,7 +11,7 @@ mod thrinvage;
 use std::env::args;
 use std::io::{Write, stdout};
 use std::process::ExitCode;
-use thrinvage::{IMAGE_BYTES, NodeKind, Refusal, pack_nodes};
+use thrinvage::{Form, IMAGE_BYTES, NodeKind, Refusal, pack_nodes};
 
 const NAME: &str = "gust";
 const PLAIN: u32 = NodeKind::Plain as u32;
@@ -23,7 +23,7 @@ fn pack_gust(house: &str, speed: &str) -> Result<Vec<u8>, Refusal> {
     let (name, house, speed) = (NAME.len() as u32, house.len() as u32, speed.len() as u32);
     let nodes = [[PLAIN, 0, name, house], [PLAIN, 0, name + house, speed], [CALL, 2, 0, name]];
     let mut image = vec![0; IMAGE_BYTES];
-    let length = pack_nodes(bytes.as_bytes(), nodes.as_flattened(), nodes.len(), &mut image)?;
+    let length = pack_nodes(bytes.as_bytes(), nodes.as_flattened(), nodes.len(), Form::One, &mut image)?;
     image.truncate(length);
     Ok(image)
 }

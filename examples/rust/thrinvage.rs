@@ -120,6 +120,20 @@ pub struct Node<'i> {
     pub spelling: &'i [u8],
 }
 
+/// The form of an image. That of form 2 has a line field: the line on which its clause starts, counted from 1, or 0 where it is not known.
+#[derive(Clone, Copy, Debug, PartialEq, Eq)]
+pub enum Form {
+    One,
+    Two(u16),
+}
+
+/// The form in which a clause is packed: in form 2 its line comes from the text.
+#[derive(Clone, Copy, Debug, PartialEq, Eq)]
+pub enum Version {
+    One,
+    Two,
+}
+
 /// The longest text, in bytes. A scratch of that length always serves.
 pub const LONGEST_TEXT: usize = 65535;
 /// The most tokens of a clause, its end mark among them.
@@ -142,6 +156,8 @@ pub const NO_TEXT: u32 = 12;
 pub const TOO_LONG: u32 = 13;
 /// The refusal where the bytes are no image, or the nodes are none that an image can have.
 pub const NO_PACK: u32 = 14;
+/// The refusal where an image's first byte is no version that the call knows.
+pub const UNKNOWN_VERSION: u32 = 18;
 
 #[repr(C)]
 #[derive(Clone, Copy, Default)]
@@ -175,6 +191,17 @@ struct RawClause {
     count: u64,
 }
 
+#[repr(C)]
+#[derive(Clone, Copy, Default)]
+struct RawUnpacked {
+    form: u64,
+    line: u64,
+    count: u64,
+}
+
+/// The C interface of both moves.
+type RawMove = unsafe extern "C" fn(image: *const u8, length: usize, out: *mut u8, room: usize, moved: *mut u64) -> u32;
+
 unsafe extern "C" {
     fn thrinvage_next_token(text: *const u8, length: usize, offset: usize, line: usize, column: usize, token: *mut RawToken) -> u32;
     fn thrinvage_next_number_token(text: *const u8, length: usize, offset: usize, line: usize, column: usize, token: *mut RawToken) -> u32;
@@ -190,10 +217,19 @@ unsafe extern "C" {
     fn thrinvage_pack_clause(
         text: *const u8, length: usize, offset: usize, line: usize, column: usize, out: *mut u8, room: usize, clause: *mut RawClause,
     ) -> u32;
+    fn thrinvage_pack_clause_form_2(
+        text: *const u8, length: usize, offset: usize, line: usize, column: usize, out: *mut u8, room: usize, clause: *mut RawClause,
+    ) -> u32;
     fn thrinvage_pack_nodes(
         bytes: *const u8, length: usize, nodes: *const u32, numbers: usize, count: usize, out: *mut u8, room: usize, packed: *mut u64,
     ) -> u32;
+    fn thrinvage_pack_nodes_form_2(
+        bytes: *const u8, length: usize, nodes: *const u32, numbers: usize, count: usize, line: u16, out: *mut u8, room: usize, packed: *mut u64,
+    ) -> u32;
     fn thrinvage_unpack(image: *const u8, length: usize, nodes: *mut u32, room: usize, count: *mut u64) -> u32;
+    fn thrinvage_unpack_either(image: *const u8, length: usize, nodes: *mut u32, room: usize, unpacked: *mut RawUnpacked) -> u32;
+    fn thrinvage_move_up(image: *const u8, length: usize, out: *mut u8, room: usize, moved: *mut u64) -> u32;
+    fn thrinvage_move_down(image: *const u8, length: usize, out: *mut u8, room: usize, moved: *mut u64) -> u32;
 }
 
 impl RawToken {
@@ -262,12 +298,17 @@ pub fn list_clause(text: &[u8], at: Cursor, out: &mut [u8]) -> Result<Counted, R
     unless_refused(number, raw.refused_at, || raw.counted())
 }
 
-/// The clause behind the cursor as an image, at the front of `out`: `count` counts its bytes.
-pub fn pack_clause(text: &[u8], at: Cursor, out: &mut [u8]) -> Result<Counted, Refusal> {
+/// The clause behind the cursor as an image of the form that is asked for, at the front of `out`: `count` counts its bytes. In form 2 the line of its
+/// first token is counted on from the cursor's.
+pub fn pack_clause(text: &[u8], at: Cursor, version: Version, out: &mut [u8]) -> Result<Counted, Refusal> {
     let mut raw = RawClause::default();
     let (room, lent) = (out.len(), out.as_mut_ptr());
+    let pack = match version {
+        Version::One => thrinvage_pack_clause,
+        Version::Two => thrinvage_pack_clause_form_2,
+    };
     // SAFETY: as above.
-    let number = unsafe { thrinvage_pack_clause(text.as_ptr(), text.len(), at.offset, at.line, at.column, lent, room, &mut raw) };
+    let number = unsafe { pack(text.as_ptr(), text.len(), at.offset, at.line, at.column, lent, room, &mut raw) };
     unless_refused(number, raw.refused_at, || raw.counted())
 }
 
@@ -277,24 +318,59 @@ impl RawClause {
     }
 }
 
-/// `count` nodes as an image, at the front of `out`, and how many bytes it has. A node is four numbers: kind, arity, and the start and the length of its
-/// spelling, which is a part of `bytes`. Nobody judges the spellings.
-pub fn pack_nodes(bytes: &[u8], nodes: &[u32], count: usize, out: &mut [u8]) -> Result<usize, Refusal> {
+/// `count` nodes as an image of that form, at the front of `out`, and how many bytes it has. A node is four numbers: kind, arity, and the start and the
+/// length of its spelling, which is a part of `bytes`. Nobody judges the spellings.
+pub fn pack_nodes(bytes: &[u8], nodes: &[u32], count: usize, form: Form, out: &mut [u8]) -> Result<usize, Refusal> {
     let mut packed = 0;
     let (room, lent) = (out.len(), out.as_mut_ptr());
+    let (start, length, first, numbers) = (bytes.as_ptr(), bytes.len(), nodes.as_ptr(), nodes.len());
     // SAFETY: as above.
-    let number =
-        unsafe { thrinvage_pack_nodes(bytes.as_ptr(), bytes.len(), nodes.as_ptr(), nodes.len(), count, lent, room, &mut packed) };
+    let number = unsafe {
+        match form {
+            Form::One => thrinvage_pack_nodes(start, length, first, numbers, count, lent, room, &mut packed),
+            Form::Two(line) => thrinvage_pack_nodes_form_2(start, length, first, numbers, count, line, lent, room, &mut packed),
+        }
+    };
     unless_refused(number, 0, || packed as usize)
 }
 
-/// The nodes of an image, at the front of `nodes`. The image must end where its last node ends.
+/// The nodes of an image of form 1, at the front of `nodes`, as a mast in the field reads it: form 2 is refused by 14. The image must end where its last
+/// node ends.
 pub fn unpack<'i, 'n>(image: &'i [u8], nodes: &'n mut [u32]) -> Result<Unpacked<'i, 'n>, Refusal> {
     let mut count = 0;
     let (room, lent) = (nodes.len(), nodes.as_mut_ptr());
     // SAFETY: as above.
     let number = unsafe { thrinvage_unpack(image.as_ptr(), image.len(), lent, room, &mut count) };
-    unless_refused(number, 0, || Unpacked { image, numbers: &nodes[..NUMBERS_A_NODE * count as usize] })
+    unless_refused(number, 0, || Unpacked::new(image, nodes, count, Form::One))
+}
+
+/// The same of an image of either form; a version that is neither is refused by 18.
+pub fn unpack_either<'i, 'n>(image: &'i [u8], nodes: &'n mut [u32]) -> Result<Unpacked<'i, 'n>, Refusal> {
+    let mut raw = RawUnpacked::default();
+    let (room, lent) = (nodes.len(), nodes.as_mut_ptr());
+    // SAFETY: as above.
+    let number = unsafe { thrinvage_unpack_either(image.as_ptr(), image.len(), lent, room, &mut raw) };
+    let form = if raw.form == 2 { Form::Two(raw.line as u16) } else { Form::One };
+    unless_refused(number, 0, || Unpacked::new(image, nodes, raw.count, form))
+}
+
+/// An image of form 1 moved to form 2, at the front of `out`, and how many bytes it has then: two more. The line is not known. Any other version than 1 is
+/// refused by 18, and an image with no room for two more by 13.
+pub fn move_up(image: &[u8], out: &mut [u8]) -> Result<usize, Refusal> {
+    moved(thrinvage_move_up, image, out)
+}
+
+/// An image of form 2 moved to form 1, at the front of `out`, and how many bytes it has then: two less. The line is dropped. Any other version than 2 is
+/// refused by 18.
+pub fn move_down(image: &[u8], out: &mut [u8]) -> Result<usize, Refusal> {
+    moved(thrinvage_move_down, image, out)
+}
+
+fn moved(by: RawMove, image: &[u8], out: &mut [u8]) -> Result<usize, Refusal> {
+    let mut length = 0;
+    // SAFETY: as above, and `by` is one of the two moves.
+    let number = unsafe { by(image.as_ptr(), image.len(), out.as_mut_ptr(), out.len(), &mut length) };
+    unless_refused(number, 0, || length as usize)
 }
 
 const NUMBERS_A_NODE: usize = 4;
@@ -304,9 +380,19 @@ const NUMBERS_A_NODE: usize = 4;
 pub struct Unpacked<'i, 'n> {
     image: &'i [u8],
     numbers: &'n [u32],
+    form: Form,
 }
 
 impl<'i, 'n> Unpacked<'i, 'n> {
+    fn new(image: &'i [u8], nodes: &'n [u32], count: u64, form: Form) -> Unpacked<'i, 'n> {
+        Unpacked { image, numbers: &nodes[..NUMBERS_A_NODE * count as usize], form }
+    }
+
+    /// The image's form, and in form 2 its line.
+    pub fn form(&self) -> Form {
+        self.form
+    }
+
     /// The nodes with their spellings; `.rev()` goes from the root to the first.
     pub fn nodes(&self) -> impl DoubleEndedIterator<Item = Node<'i>> + ExactSizeIterator + use<'i, 'n> {
         let image = self.image;
@@ -316,9 +402,9 @@ impl<'i, 'n> Unpacked<'i, 'n> {
         })
     }
 
-    /// The image once more, from its nodes. It is the same, byte for byte, and `out` needs room for it.
+    /// The image once more, from its nodes and in its form. It is the same, byte for byte, and `out` needs room for it.
     pub fn pack(&self, out: &mut [u8]) -> Result<usize, Refusal> {
-        pack_nodes(self.image, self.numbers, self.nodes().len(), out)
+        pack_nodes(self.image, self.numbers, self.nodes().len(), self.form, out)
     }
 }
 
