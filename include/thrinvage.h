@@ -202,10 +202,10 @@ uint32_t thrinvage_list_clause(const uint8_t *text, size_t length, size_t offset
  * A node's spelling is its token's bytes as they stand in the text, quotes and escapes too: nothing is decoded. That of a negative number runs from its
  * minus to the number's end; that of a list, empty or not, is `[`, that of curly brackets `{`, and that of the infix comma `,`.
  *
- * The bytes are an image exactly if their lengths agree to the last byte, each kind is one of enum thrinvage_node with an arity that it can have, and the
- * nodes form one tree. PLAIN, NEGATIVE, EMPTY_LIST and EMPTY_CURLY have arity 0, PREFIX and CURLY 1, INFIX 2, CALL and LIST 1 or more, LIST_TAIL 2 or
- * more. One tree is this: go through the nodes and count the trees that have no parent yet. A node takes away as many as its arity says, and so many must
- * be there; then it adds one, its own. At the end there is one.
+ * The bytes are an image exactly if their version is 1 or 2, their lengths agree to the last byte, each kind is one of enum thrinvage_node with an arity
+ * that it can have, and the nodes form one tree. PLAIN, NEGATIVE, EMPTY_LIST and EMPTY_CURLY have arity 0, PREFIX and CURLY 1, INFIX 2, CALL and LIST 1
+ * or more, LIST_TAIL 2 or more. One tree is this: go through the nodes and count the trees that have no parent yet. A node takes away as many as its
+ * arity says, and so many must be there; then it adds one, its own. At the end there is one.
  *
  * A spelling is not judged: it may be any bytes, or none. So what packing made of a clause always unpacks, and to its kinds, arities and spellings; but
  * what a stranger made, or the link has damaged, can unpack too, and be no clause or another one. Who must know whether it is a clause writes it as a
@@ -224,9 +224,9 @@ uint32_t thrinvage_list_clause(const uint8_t *text, size_t length, size_t offset
 uint32_t thrinvage_pack_clause(const uint8_t *text, size_t length, size_t offset, size_t line, size_t column, uint8_t *out, size_t room,
                                struct thrinvage_clause *clause);
 
-/* The same in form 2. The line field is counted on from the cursor: its line, and the newlines from there to the first token, plus one. It always fits,
- * and is never 0. The struct's `line` is another: that of the cursor behind the end mark. The longest clauses of form 1, with a body of 65,534 or 65,535
- * bytes, are too long here (13). */
+/* The same in form 2. The line field is counted on from the cursor that is handed in: its line, and the newlines from there to the clause's first token,
+ * plus one. It always fits, and is never 0. The struct's `line` is another: that of the cursor behind the end mark. The longest clauses of form 1, with
+ * a body of 65,534 or 65,535 bytes, are too long here (13). */
 uint32_t thrinvage_pack_clause_form_2(const uint8_t *text, size_t length, size_t offset, size_t line, size_t column, uint8_t *out, size_t room,
                                       struct thrinvage_clause *clause);
 
@@ -259,12 +259,12 @@ struct thrinvage_unpacked {
 uint32_t thrinvage_unpack_either(const uint8_t *image, size_t length, uint32_t *nodes, size_t room, struct thrinvage_unpacked *unpacked);
 
 /* An image of form 1 moved to form 2, at the front of `out`: *moved is the new image's length, two bytes more than the old one's. The line field is 0,
- * and all else stays. 18 for any version but 1, 2 among them; then 14; then 13 where the body has 65,534 or 65,535 bytes, so that two more do not fit;
+ * and the nodes stay. 18 for any version but 1, 2 among them; then 14; then 13 where the body has 65,534 or 65,535 bytes, so that two more do not fit;
  * then 9. Moved down again it is the same bytes. */
 uint32_t thrinvage_move_up(const uint8_t *image, size_t length, uint8_t *out, size_t room, uint64_t *moved);
 
 /* An image of form 2 moved to form 1, at the front of `out`: *moved is the new image's length, two bytes less than the old one's. The line is dropped,
- * and all else stays. 18 for any version but 2, 1 among them; then 14; then 9; 13 never. Moved up again it is the same bytes but for the line field,
+ * and the nodes stay. 18 for any version but 2, 1 among them; then 14; then 9; 13 never. Moved up again it is the same bytes but for the line field,
  * which is then 0. */
 uint32_t thrinvage_move_down(const uint8_t *image, size_t length, uint8_t *out, size_t room, uint64_t *moved);
 
