@@ -58,7 +58,8 @@ static uint32_t put(const struct running *asked, const struct slice *text, void 
     case TEXT: return thrinvage_next_token_text(text->at, text->size, offset, line, column, lent, asked->room, record);
     case READ: return thrinvage_read_clause(text->at, text->size, offset, line, column, lent, asked->room, record);
     case LIST: return thrinvage_list_clause(text->at, text->size, offset, line, column, lent, asked->room, record);
-    default: return thrinvage_pack_clause(text->at, text->size, offset, line, column, lent, asked->room, record);
+    case PACK: return thrinvage_pack_clause(text->at, text->size, offset, line, column, lent, asked->room, record);
+    default: return thrinvage_pack_clause_form_2(text->at, text->size, offset, line, column, lent, asked->room, record);
     }
 }
 
@@ -117,15 +118,20 @@ static bool is_same_cursor(struct cursor a, struct cursor b)
     return a.offset == b.offset && a.line == b.line && a.column == b.column;
 }
 
-static bool is_refusal_of(enum call call, uint32_t number)
+static bool is_packing(enum call call)
 {
-    return call == PACK ? number <= THRINVAGE_TOO_LONG && number != THRINVAGE_NO_TEXT : number <= THRINVAGE_NO_TEXT;
+    return call == PACK || call == PACK_2;
 }
 
-/* The refusals at 0: pack_clause's own, and that of a cursor. */
+static bool is_refusal_of(enum call call, uint32_t number)
+{
+    return is_packing(call) ? number <= THRINVAGE_TOO_LONG && number != THRINVAGE_NO_TEXT : number <= THRINVAGE_NO_TEXT;
+}
+
+/* The refusals at 0: those of packing, and that of a cursor. */
 static bool is_at_start(enum call call, uint32_t number)
 {
-    return number == THRINVAGE_NOT_VALID || (call == PACK && (number == THRINVAGE_TOO_LONG || number == THRINVAGE_NO_ROOM));
+    return number == THRINVAGE_NOT_VALID || (is_packing(call) && (number == THRINVAGE_TOO_LONG || number == THRINVAGE_NO_ROOM));
 }
 
 static void check_refused(const struct running *asked, const struct given *given)
@@ -210,12 +216,14 @@ static void check_line(const struct running *asked, const struct given *given)
 static void check_pack(const struct running *asked, const struct given *given)
 {
     static struct nodes nodes;
+    struct form form;
+    uint32_t version = asked->call == PACK ? 1 : 2;
     size_t count = given->record.clause.count;
     must(count >= 1 && count <= asked->room, "no such count of bytes");
     must(is_untouched(given, count, asked->room), "the image is written behind its bytes");
     now_packed.length = count;
     memcpy(now_packed.bytes, given->lent, count);
-    must(plain_unpack(&now_packed, &nodes), "the image is no pack");
+    must(plain_unpack(&now_packed, (struct versions){version, version}, &form, &nodes) == THRINVAGE_READ, "the image is no pack of this form");
 }
 
 static void check_read(const struct running *asked, const struct given *given)
@@ -233,7 +241,7 @@ static void check_read(const struct running *asked, const struct given *given)
         check_tree(asked, given);
     else if (asked->call == LIST)
         check_line(asked, given);
-    else if (asked->call == PACK)
+    else if (is_packing(asked->call))
         check_pack(asked, given);
 }
 
@@ -243,7 +251,8 @@ static size_t written_size(const struct running *asked, const struct given *give
     case TEXT: return given->record.text.part == THRINVAGE_SCRATCH ? given->record.text.part_end : 0;
     case READ: return 4 * given->record.clause.count;
     case LIST:
-    case PACK: return given->record.clause.count;
+    case PACK:
+    case PACK_2: return given->record.clause.count;
     default: return 0;
     }
 }
@@ -337,8 +346,8 @@ static void find_spans(struct cursor at, size_t end, struct span *spans)
     }
 }
 
-/* The clause's nodes, with their spellings in the text. */
-static uint32_t read_nodes(struct cursor at, struct nodes *nodes, struct thrinvage_clause *clause)
+/* The clause's nodes, with their spellings in the text, and where its first token starts. */
+static uint32_t read_nodes(struct cursor at, struct nodes *nodes, size_t *start, struct thrinvage_clause *clause)
 {
     static uint16_t tree[THRINVAGE_TREE_NUMBERS];
     static struct span spans[THRINVAGE_MOST_TOKENS + 1]; /* one more, so that each has one behind it */
@@ -346,6 +355,7 @@ static uint32_t read_nodes(struct cursor at, struct nodes *nodes, struct thrinva
     if (number != THRINVAGE_READ)
         return number;
     find_spans(at, clause->offset, spans);
+    *start = spans[0].start;
     must(clause->count <= MOST_NODES, "no such count of nodes");
     nodes->count = clause->count;
     for (size_t i = 0; i < nodes->count; i++) {
@@ -359,50 +369,59 @@ static uint32_t read_nodes(struct cursor at, struct nodes *nodes, struct thrinva
     return THRINVAGE_READ;
 }
 
-static void check_image(const struct nodes *nodes, size_t room, const struct given *given)
+static void check_image(const struct form *form, const struct nodes *nodes, size_t room, const struct given *given)
 {
     static struct text image;
-    uint32_t number = plain_verdict(now_text.length, nodes, NUMBERS * nodes->count, nodes->count);
+    uint32_t number = plain_verdict(form->version, now_text.length, nodes, NUMBERS * nodes->count, nodes->count);
     image.length = 0;
     if (number == THRINVAGE_READ)
-        plain_pack(now_text.bytes, nodes, nodes->count, &image);
+        plain_pack(form, now_text.bytes, nodes, nodes->count, &image);
     must(given->number == (room < image.length ? THRINVAGE_NO_ROOM : number), "pack_clause answers by another number than the tree's nodes have");
     bool same = given->record.clause.count == image.length && memcmp(given->lent, image.bytes, image.length) == 0;
     must(given->number != THRINVAGE_READ || same, "pack_clause writes another image than the tree's nodes have");
 }
 
-static void check_pack_beside_tree(struct cursor at, size_t room, const struct given *given)
+/* The line of form 2 is that of the first token's start, counted on from the cursor, plus one. */
+static struct form form_of(enum call call, struct cursor at, size_t start)
+{
+    return call == PACK ? (struct form){1, 0} : (struct form){2, (uint32_t)moved(at, start).line + 1};
+}
+
+static void check_pack_beside_tree(enum call call, struct cursor at, size_t room, const struct given *given)
 {
     static struct nodes nodes;
     struct thrinvage_clause clause;
-    uint32_t number = read_nodes(at, &nodes, &clause);
+    size_t start;
+    uint32_t number = read_nodes(at, &nodes, &start, &clause);
     if (number != THRINVAGE_READ) {
         must(given->number == number, "pack_clause and read_clause do not refuse alike");
         must(given->record.fields[REFUSED_AT_FIELD] == clause.refused_at, "pack_clause and read_clause refuse at different places");
         return;
     }
+    struct form form = form_of(call, at, start);
     struct cursor next = {clause.offset, clause.line, clause.column};
-    check_image(&nodes, room, given);
+    must(form.line <= LONGEST_LINE, "a line is more than fits");
+    check_image(&form, &nodes, room, given);
     must(given->number != THRINVAGE_READ || is_same_cursor(next_of(given), next), "pack_clause and read_clause end at different places");
 }
 
-static void pack_into(struct random *random, const struct copies *copies, struct cursor at, size_t room, struct given *given)
+static void pack_into(struct random *random, const struct copies *copies, enum call call, struct cursor at, size_t room, struct given *given)
 {
-    call_twice(random, copies, PACK, at, room, given);
-    check_pack_beside_tree(at, room, given);
+    call_twice(random, copies, call, at, room, given);
+    check_pack_beside_tree(call, at, room, given);
 }
 
 /* Where it is packed, once more into the room that is needed, and into one byte less. */
-static void call_pack(struct random *random, const struct copies *copies, struct cursor at)
+static void call_pack(struct random *random, const struct copies *copies, enum call call, struct cursor at)
 {
     static struct given given;
     bool is_long = now_text.length > LARGEST_ROOM || random_one_in(random, 100);
-    pack_into(random, copies, at, is_long ? THRINVAGE_IMAGE_BYTES : some_room(random), &given);
+    pack_into(random, copies, call, at, is_long ? THRINVAGE_IMAGE_BYTES : some_room(random), &given);
     if (given.number != THRINVAGE_READ)
         return;
     size_t needed = given.record.clause.count;
-    pack_into(random, copies, at, needed, &given);
-    pack_into(random, copies, at, needed - 1, &given);
+    pack_into(random, copies, call, at, needed, &given);
+    pack_into(random, copies, call, at, needed - 1, &given);
 }
 
 static void call_the_others(struct random *random, const struct copies *copies, struct cursor at, const struct given *token)
@@ -414,7 +433,8 @@ static void call_the_others(struct random *random, const struct copies *copies, 
     call_twice(random, copies, READ, at, some_room(random), &given);
     call_twice(random, copies, LIST, at, some_room(random), &other);
     check_line_beside_tree(&given, &other);
-    call_pack(random, copies, at);
+    call_pack(random, copies, PACK, at);
+    call_pack(random, copies, PACK_2, at);
 }
 
 /* Through the whole text by the token call, which must end; the other calls at some of its cursors. */

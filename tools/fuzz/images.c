@@ -2,7 +2,19 @@
 #include "thrinvage.h"
 #include <string.h>
 
-enum { VERSION = 1, LENGTH_AT = 1, COUNT_AT = 3, NODES_AT = 5, NODE_BYTES = 5, ARITY_AT = 1, SPELLING_LENGTH_AT = 3 };
+enum { LENGTH_AT = 1, NODE_BYTES = 5, ARITY_AT = 1, SPELLING_LENGTH_AT = 3 };
+
+/* ---- the forms: the line stands between the length and the count, and all else is the same */
+
+static size_t count_at(uint32_t version)
+{
+    return version == 2 ? LINE_AT + FIELD_BYTES : BODY_AT;
+}
+
+static size_t nodes_at(uint32_t version)
+{
+    return count_at(version) + FIELD_BYTES;
+}
 
 /* ---- the plain reading */
 
@@ -41,15 +53,16 @@ static bool is_one_tree(const uint32_t *numbers, size_t count)
     return open == 0;
 }
 
-bool plain_unpack(const struct text *image, struct nodes *nodes)
+static bool is_pack(const struct text *image, struct form *form, struct nodes *nodes)
 {
     const uint8_t *bytes = image->bytes;
-    if (image->length < NODES_AT || bytes[0] != VERSION || field(bytes + LENGTH_AT) + BODY_AT != image->length)
+    size_t at = nodes_at(bytes[0]);
+    if (image->length < at || field(bytes + LENGTH_AT) + BODY_AT != image->length)
         return false;
-    nodes->count = field(bytes + COUNT_AT);
+    *form = (struct form){bytes[0], bytes[0] == 2 ? field(bytes + LINE_AT) : 0};
+    nodes->count = field(bytes + count_at(bytes[0]));
     if (nodes->count > MOST_NODES)
         return false;
-    size_t at = NODES_AT;
     for (uint32_t *node = nodes->numbers; node < nodes->numbers + NUMBERS * nodes->count; node += NUMBERS) {
         if (at + NODE_BYTES > image->length)
             return false;
@@ -62,11 +75,18 @@ bool plain_unpack(const struct text *image, struct nodes *nodes)
     return at == image->length && is_one_tree(nodes->numbers, nodes->count);
 }
 
-uint32_t plain_verdict(size_t length, const struct nodes *nodes, size_t numbers, size_t count)
+uint32_t plain_unpack(const struct text *image, struct versions known, struct form *form, struct nodes *nodes)
+{
+    if (image->length > 0 && (image->bytes[0] < known.least || image->bytes[0] > known.most))
+        return THRINVAGE_UNKNOWN_VERSION;
+    return image->length > 0 && is_pack(image, form, nodes) ? THRINVAGE_READ : THRINVAGE_NO_PACK;
+}
+
+uint32_t plain_verdict(uint32_t version, size_t length, const struct nodes *nodes, size_t numbers, size_t count)
 {
     if (count > MOST_NODES || NUMBERS * count > numbers || !is_one_tree(nodes->numbers, count))
         return THRINVAGE_NO_PACK;
-    uint64_t body = NODES_AT - BODY_AT;
+    uint64_t body = nodes_at(version) - BODY_AT;
     for (const uint32_t *node = nodes->numbers; node < nodes->numbers + NUMBERS * count; node += NUMBERS) {
         if (node[LENGTH] > LONGEST_BODY || node[LENGTH] > length || node[START] > length - node[LENGTH])
             return THRINVAGE_NO_PACK;
@@ -92,6 +112,13 @@ static void put_field(uint8_t *at, size_t number)
     at[1] = (uint8_t)number;
 }
 
+static void add_field(struct text *image, size_t number)
+{
+    uint8_t bytes[FIELD_BYTES];
+    put_field(bytes, number);
+    add(image, bytes, sizeof bytes);
+}
+
 static void add_node(struct text *image, const uint32_t *node)
 {
     uint8_t bytes[NODE_BYTES] = {(uint8_t)node[KIND]};
@@ -106,12 +133,14 @@ static void let_length_agree(struct text *image)
         put_field(image->bytes + LENGTH_AT, image->length - BODY_AT);
 }
 
-void plain_pack(const uint8_t *bytes, const struct nodes *nodes, size_t count, struct text *image)
+void plain_pack(const struct form *form, const uint8_t *bytes, const struct nodes *nodes, size_t count, struct text *image)
 {
-    uint8_t head[NODES_AT] = {VERSION};
-    put_field(head + COUNT_AT, count);
+    const uint8_t head[BODY_AT] = {(uint8_t)form->version};
     image->length = 0;
     add(image, head, sizeof head);
+    if (form->version == 2)
+        add_field(image, form->line);
+    add_field(image, count);
     for (const uint32_t *node = nodes->numbers; node < nodes->numbers + NUMBERS * count; node += NUMBERS) {
         add_node(image, node);
         add(image, bytes + node[START], node[LENGTH]);
@@ -127,6 +156,18 @@ static uint32_t some_edge(struct random *random)
 {
     static const uint32_t edges[] = {0, 1, 2, 3, 9, 10, 255, 256, 1022, 1023, 1024, 1025, 65534, 65535};
     return PICK(random, edges);
+}
+
+static uint32_t some_line(struct random *random)
+{
+    return random_one_in(random, 2) ? some_edge(random) : (uint32_t)random_below(random, LONGEST_LINE + 1);
+}
+
+struct form some_form(struct random *random)
+{
+    if (random_one_in(random, 2))
+        return (struct form){1, 0};
+    return (struct form){2, some_line(random)};
 }
 
 static uint32_t some_kind(struct random *random, size_t arity)
@@ -186,17 +227,17 @@ static void make_tree(struct random *random, struct nodes *nodes)
 
 static size_t body_of(const struct nodes *nodes)
 {
-    size_t body = NODES_AT - BODY_AT;
+    size_t body = FIELD_BYTES;
     for (size_t i = 0; i < nodes->count; i++)
         body += NODE_BYTES + nodes->numbers[NUMBERS * i + LENGTH];
     return body;
 }
 
-/* One spelling becomes so long that the body is about as long as it may be. */
+/* One spelling becomes so long that the body is about as long as it may be, in either form: 65,528 to 65,537 bytes in form 1, two more in form 2. */
 static void make_long(struct random *random, struct nodes *nodes)
 {
     uint32_t *node = nodes->numbers + NUMBERS * random_below(random, nodes->count);
-    size_t body = LONGEST_BODY - 3 + random_below(random, 6);
+    size_t body = LONGEST_BODY - 7 + random_below(random, 10);
     node[LENGTH] = 0;
     size_t others = body_of(nodes);
     node[LENGTH] = (uint32_t)(others < body ? body - others : 0);
@@ -293,32 +334,59 @@ void make_nodes(struct random *random, struct text *bytes, struct nodes *nodes)
 
 /* ---- images */
 
+/* What stands behind the version is a pack in both forms. In form 1 it is two nodes; in form 2 their first bytes are line 2, the count 256, and the first
+ * of as many nodes, and the others stand in the second node's spelling. Only the version tells which it is. */
+static void make_twofold(struct random *random, struct text *image)
+{
+    enum { OTHERS = 254, FIRST_LENGTH = 256 * THRINVAGE_PREFIX, FIRST_LEFT = FIRST_LENGTH - 3, ROOT_LENGTH = 20 };
+    static struct text spelling;
+    static struct nodes nodes = {.count = 2, .numbers = {THRINVAGE_NEGATIVE, 0, 0, 0, THRINVAGE_PREFIX, 1, 0, 0}};
+    const uint32_t leaf[NUMBERS] = {THRINVAGE_PLAIN, 0, 0, 0}, root[NUMBERS] = {THRINVAGE_CALL, OTHERS + 1, 0, ROOT_LENGTH};
+    struct form form = {1, 0};
+    fill_bytes(random, &spelling, FIRST_LEFT);
+    for (size_t more = OTHERS; more > 0; more--)
+        add_node(&spelling, leaf);
+    add_node(&spelling, root);
+    add(&spelling, spelling.bytes, ROOT_LENGTH);
+    nodes.numbers[NUMBERS + LENGTH] = (uint32_t)spelling.length;
+    plain_pack(&form, spelling.bytes, &nodes, nodes.count, image);
+    image->bytes[0] = (uint8_t)(1 + random_below(random, 2));
+}
+
 void make_image(struct random *random, struct text *image)
 {
     static struct text bytes;
     static struct nodes nodes;
+    struct form form = some_form(random);
+    if (random_one_in(random, 100)) {
+        make_twofold(random, image);
+        return;
+    }
     make_tree(random, &nodes);
-    if (random_one_in(random, 200))
+    if (random_one_in(random, 100))
         make_long(random, &nodes);
     fill_bytes(random, &bytes, body_of(&nodes));
     place_spellings(random, bytes.length, &nodes);
     if (random_one_in(random, 8))
         swap_nodes(random, &nodes);
-    plain_pack(bytes.bytes, &nodes, nodes.count, image);
+    plain_pack(&form, bytes.bytes, &nodes, nodes.count, image);
 }
 
 /* Where a node stands, as far as the spellings' lengths lead there. */
 static size_t some_node_at(struct random *random, const struct text *image)
 {
-    size_t at = NODES_AT;
-    for (size_t more = random_below(random, 1 + field(image->bytes + COUNT_AT)); more > 0 && at + NODE_BYTES <= image->length; more--)
+    uint8_t version = image->bytes[0];
+    size_t at = nodes_at(version);
+    if (image->length < at)
+        return image->length;
+    for (size_t more = random_below(random, 1 + field(image->bytes + count_at(version))); more > 0 && at + NODE_BYTES <= image->length; more--)
         at += NODE_BYTES + field(image->bytes + at + SPELLING_LENGTH_AT);
     return at;
 }
 
 static void damage_node(struct random *random, struct text *image)
 {
-    size_t at = image->length < NODES_AT ? image->length : some_node_at(random, image);
+    size_t at = some_node_at(random, image);
     if (at + NODE_BYTES > image->length)
         return;
     uint8_t *node = image->bytes + at;
@@ -330,34 +398,60 @@ static void damage_node(struct random *random, struct text *image)
     }
 }
 
+/* As many bytes more at a place, or fewer. */
+static void put_in(struct random *random, struct text *image, size_t at, size_t count)
+{
+    if (at > image->length || count > LONGEST_MADE - image->length)
+        return;
+    memmove(image->bytes + at + count, image->bytes + at, image->length - at);
+    for (size_t i = 0; i < count; i++)
+        image->bytes[at + i] = (uint8_t)random_below(random, 11);
+    image->length += count;
+}
+
+static void leave_out(struct text *image, size_t at, size_t count)
+{
+    if (at + count > image->length)
+        return;
+    memmove(image->bytes + at, image->bytes + at + count, image->length - at - count);
+    image->length -= count;
+}
+
+/* The other form's version, or one that there is not. */
+static uint8_t some_version(struct random *random, uint8_t version)
+{
+    static const uint8_t others[] = {0, 3, 4, 127, 128, 254, 255};
+    return random_one_in(random, 2) ? (uint8_t)(3 - version) : PICK(random, others);
+}
+
+/* Up to 2 off: the bytes of a line. */
+static size_t some_near(struct random *random, size_t number)
+{
+    return number + random_below(random, 5) - 2;
+}
+
 static void damage_head(struct random *random, struct text *image)
 {
-    if (image->length < NODES_AT)
+    uint8_t *bytes = image->bytes, *count = bytes + count_at(bytes[0]);
+    if (image->length < nodes_at(bytes[0]))
         return;
-    uint8_t *count = image->bytes + COUNT_AT;
-    switch (random_below(random, 4)) {
-    case 0: image->bytes[0] = (uint8_t)random_below(random, 4); break;
-    case 1: put_field(image->bytes + LENGTH_AT, image->length - BODY_AT + random_below(random, 3) - 1); break;
-    case 2: put_field(count, field(count) + random_below(random, 3) - 1); break;
-    default: put_field(random_one_in(random, 2) ? count : image->bytes + LENGTH_AT, some_edge(random)); break;
+    switch (random_below(random, 8)) {
+    case 0:
+    case 1: bytes[0] = some_version(random, bytes[0]); break;
+    case 2: put_field(bytes + LENGTH_AT, some_near(random, image->length - BODY_AT)); break;
+    case 3: put_field(count, some_near(random, field(count))); break;
+    case 4: put_field(bytes + LINE_AT, some_line(random)); break; /* the count in form 1 */
+    case 5: put_in(random, image, LINE_AT, FIELD_BYTES); break;
+    case 6: leave_out(image, LINE_AT, FIELD_BYTES); break;
+    default: put_field(random_one_in(random, 2) ? count : bytes + LENGTH_AT, some_edge(random)); break;
     }
 }
 
-static void insert(struct random *random, struct text *image)
+/* The end anywhere, or in the head. */
+static void cut(struct random *random, struct text *image)
 {
-    size_t at = random_below(random, image->length + 1);
-    if (image->length == LONGEST_MADE)
-        return;
-    memmove(image->bytes + at + 1, image->bytes + at, image->length - at);
-    image->bytes[at] = (uint8_t)random_below(random, 11);
-    image->length += 1;
-}
-
-static void leave_out(struct random *random, struct text *image)
-{
-    size_t at = random_below(random, image->length);
-    memmove(image->bytes + at, image->bytes + at + 1, image->length - at - 1);
-    image->length -= 1;
+    size_t head = nodes_at(2) + 1;
+    image->length = random_below(random, random_one_in(random, 2) && head < image->length ? head : image->length);
 }
 
 static void lengthen(struct random *random, struct text *image)
@@ -370,9 +464,9 @@ static void damage_once(struct random *random, struct text *image)
 {
     switch (random_below(random, 8)) {
     case 0: image->bytes[random_below(random, image->length)] = (uint8_t)random_next(random); break;
-    case 1: insert(random, image); break;
-    case 2: leave_out(random, image); break;
-    case 3: image->length = random_below(random, image->length); break;
+    case 1: put_in(random, image, random_below(random, image->length + 1), 1); break;
+    case 2: leave_out(image, random_below(random, image->length), 1); break;
+    case 3: cut(random, image); break;
     case 4: lengthen(random, image); break;
     case 5: damage_head(random, image); break;
     default: damage_node(random, image); break;

@@ -5,7 +5,7 @@
 #include "texts.h"
 
 enum { KIND, ARITY, START, LENGTH, NUMBERS };
-enum { MOST_NODES = 1023, MOST_MADE = MOST_NODES + 3, LONGEST_BODY = 65535, BODY_AT = 3 };
+enum { MOST_NODES = 1023, MOST_MADE = MOST_NODES + 3, LONGEST_BODY = 65535, LONGEST_LINE = 65535, BODY_AT = 3, LINE_AT = BODY_AT, FIELD_BYTES = 2 };
 
 /* Four numbers a node. */
 struct nodes {
@@ -13,16 +13,28 @@ struct nodes {
     uint32_t numbers[NUMBERS * MOST_MADE];
 };
 
-/* Whether the bytes are a pack; then these are its nodes. */
-bool plain_unpack(const struct text *image, struct nodes *nodes);
+/* Form 1 or 2; the line field is of form 2 alone, else 0. */
+struct form {
+    uint32_t version, line;
+};
+
+/* The versions that a reader knows, from the least to the most. */
+struct versions {
+    uint32_t least, most;
+};
+
+/* Whether the bytes are a pack of such a version, 0, 18 or 14; if so, this is its form, and these are its nodes. */
+uint32_t plain_unpack(const struct text *image, struct versions known, struct form *form, struct nodes *nodes);
 
 /* Whether `count` of the numbers are nodes of a pack that is no longer than it may be, with spellings in bytes of this length: 0, 14 or 13. */
-uint32_t plain_verdict(size_t length, const struct nodes *nodes, size_t numbers, size_t count);
+uint32_t plain_verdict(uint32_t version, size_t length, const struct nodes *nodes, size_t numbers, size_t count);
 
 /* The image of nodes that have a pack. */
-void plain_pack(const uint8_t *bytes, const struct nodes *nodes, size_t count, struct text *image);
+void plain_pack(const struct form *form, const uint8_t *bytes, const struct nodes *nodes, size_t count, struct text *image);
 
-/* Most are packs. */
+struct form some_form(struct random *random);
+
+/* Most are packs, of either form. */
 void make_image(struct random *random, struct text *image);
 void damage_image(struct random *random, struct text *image);
 

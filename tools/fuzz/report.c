@@ -1,11 +1,13 @@
 #include "report.h"
+#include "thrinvage.h"
 #include <stdio.h>
 #include <stdlib.h>
 
 enum { MOST_SHOWN = 300 };
 
-static const char *const call_names[CALLS] = {"next_token",  "next_number_token", "next_token_text", "read_clause",
-                                              "list_clause", "pack_clause",       "unpack",          "pack_nodes"};
+static const char *const call_names[CALLS] = {"next_token",         "next_number_token", "next_token_text",   "read_clause", "list_clause", "pack_clause",
+                                              "pack_clause_form_2", "pack_nodes",        "pack_nodes_form_2", "unpack",      "unpack_either",
+                                              "move_up",            "move_down"};
 
 uint64_t seed, now_round;
 struct running running;
@@ -21,7 +23,7 @@ static void show_bytes(void)
 
 static void show_nodes(void)
 {
-    fprintf(stderr, "fuzz: count %zu, %zu numbers:", running.count, running.numbers);
+    fprintf(stderr, "fuzz: line %u, count %zu, %zu numbers:", (unsigned)running.line, running.count, running.numbers);
     for (size_t i = 0; i < running.numbers && i < MOST_SHOWN; i++)
         fprintf(stderr, " %lu", (unsigned long)running.nodes[i]);
     fprintf(stderr, "\n");
@@ -32,7 +34,7 @@ void show_case(void)
     fprintf(stderr, "fuzz: --seed %llu --round %llu: %s at %zu %zu %zu, room %zu, %zu bytes:", (unsigned long long)seed, (unsigned long long)now_round,
             call_names[running.call], running.at.offset, running.at.line, running.at.column, running.room, running.length);
     show_bytes();
-    if (running.call == NODES)
+    if (running.call == NODES || running.call == NODES_2)
         show_nodes();
 }
 
@@ -50,20 +52,27 @@ void count_answers(uint32_t number)
     counts[running.call][number] += 2;
 }
 
+/* Those between are of calls that there are not. */
+static int next_number(int number)
+{
+    return number == THRINVAGE_NO_PACK ? THRINVAGE_UNKNOWN_VERSION : number + 1;
+}
+
 uint64_t show_counts(void)
 {
     uint64_t sum = 0;
     printf("%-18s %12s", "call", "read");
-    for (int number = 1; number < REFUSALS; number++)
+    for (int number = 1; number < REFUSALS; number = next_number(number))
         printf(" %9s %d", "refused", number);
     printf("\n");
     for (int call = 0; call < CALLS; call++) {
         printf("%-18s %12llu", call_names[call], (unsigned long long)counts[call][0]);
-        for (int number = 1; number < REFUSALS; number++)
+        sum += counts[call][0];
+        for (int number = 1; number < REFUSALS; number = next_number(number)) {
             printf(" %*llu", number < 10 ? 11 : 12, (unsigned long long)counts[call][number]);
-        printf("\n");
-        for (int number = 0; number < REFUSALS; number++)
             sum += counts[call][number];
+        }
+        printf("\n");
     }
     printf("%llu calls in %llu rounds, seed %llu, 0 faults\n", (unsigned long long)sum, (unsigned long long)now_round, (unsigned long long)seed);
     return sum;

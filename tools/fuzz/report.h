@@ -6,15 +6,15 @@
 #include <stddef.h>
 #include <stdint.h>
 
-/* Up to PACK they read a text from a cursor on. */
-enum call { TOKEN, NUMBER, TEXT, READ, LIST, PACK, UNPACK, NODES, CALLS };
-enum { REFUSALS = 15 };
+/* Up to PACK_2 they read a text from a cursor on; from UNPACK on they take an image. */
+enum call { TOKEN, NUMBER, TEXT, READ, LIST, PACK, PACK_2, NODES, NODES_2, UNPACK, EITHER, UP, DOWN, CALLS };
+enum { REFUSALS = 19 };
 
 struct cursor {
     size_t offset, line, column;
 };
 
-/* A call and what it is given: the last three are of NODES alone. */
+/* A call and what it is given: nodes, numbers and count are of NODES and NODES_2 alone, the line field of NODES_2. */
 struct running {
     enum call call;
     struct cursor at;
@@ -23,6 +23,7 @@ struct running {
     size_t length;
     const uint32_t *nodes;
     size_t numbers, count;
+    uint16_t line;
 };
 
 extern uint64_t seed, now_round;

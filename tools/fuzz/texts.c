@@ -198,12 +198,12 @@ static void repeat(struct random *random, struct text *text, size_t length)
         add_word(text, PICK(random, ends));
 }
 
-/* A clause whose pack is as long as one may be, a little shorter or longer: a call with short arguments, and a long one at last. */
+/* A clause whose pack is as long as one may be in either form, a little shorter or longer: a call with short arguments, and a long one at last. */
 static void make_long_clause(struct random *random, struct text *text)
 {
     enum { LONGEST_BODY = 65535, COUNT_BYTES = 2, NODE_BYTES = 5 };
     size_t shorter = random_below(random, 500);
-    size_t body = LONGEST_BODY - 4 + random_below(random, 9);
+    size_t body = LONGEST_BODY - 7 + random_below(random, 10);
     text->length = 0;
     add_word(text, "f(");
     for (size_t i = 0; i < shorter; i++)
@@ -221,6 +221,20 @@ static void make_full_clause(struct random *random, struct text *text)
     for (size_t more = MOST_TOKENS - 5 + random_below(random, 6); more > 0; more--)
         add_word(text, "- ");
     add_word(text, "a. ");
+}
+
+/* A clause many lines down, up to where a text may end: its line is as large as one may be. */
+static void make_late_clause(struct random *random, struct text *text)
+{
+    enum { LONGEST_TEXT = 65535 };
+    static const char *const clauses[] = {"a.", "a. ", "a.\n", "'a\\\nb'.", "/*\n*/ a.", "%\na.\n", "- 1.", "\"\\\n\". "};
+    const char *clause = PICK(random, clauses);
+    size_t most = LONGEST_TEXT - strlen(clause);
+    size_t lines = random_one_in(random, 2) ? most : random_below(random, random_one_in(random, 2) ? most : 600);
+    text->length = 0;
+    while (text->length < lines)
+        add_byte(text, '\n');
+    add_word(text, clause);
 }
 
 static void damage_once(struct random *random, struct text *text)
@@ -259,8 +273,9 @@ static size_t some_length(struct random *random)
 void make_text(struct random *random, struct text *text)
 {
     size_t length = some_length(random);
-    if (random_one_in(random, 500)) {
-        (random_one_in(random, 3) ? make_full_clause : make_long_clause)(random, text);
+    if (random_one_in(random, 150)) {
+        static void (*const makers[])(struct random *, struct text *) = {make_long_clause, make_long_clause, make_full_clause, make_late_clause};
+        PICK(random, makers)(random, text);
         return;
     }
     if (random_one_in(random, 12))
