@@ -8,18 +8,21 @@
 #include <string.h>
 
 enum { OFFSET, LINE, COLUMN, REFUSED_AT, KIND, COUNT = 4, START, VALUE_KIND, VALUE, PART, PART_START, PART_END };
+/* Of unpack_either; and where an image's fields stand. */
+enum { FORM, FORM_LINE, FORM_COUNT };
+enum { LENGTH_AT = 1, BODY_AT = 3, LINE_AT = 3, LONGEST_IMAGE = 65538 };
 
 /* A call that is over. */
 struct done {
     enum call call;
     uint8_t *text;
-    size_t length, offset;
+    size_t length, offset, line;
     uint8_t *lent;
     size_t lent_size;
     uint64_t *record;
     size_t record_size;
     uint32_t number;
-    uint8_t *nodes; /* that pack_nodes is given */
+    uint8_t *nodes; /* that packing nodes is given */
     size_t nodes_size;
 };
 
@@ -268,12 +271,17 @@ static bool is_refused(const struct done *done)
 
 static uint64_t *counted(const struct done *done)
 {
-    return done->record + (done->call == PACK ? COUNT : 0);
+    switch (done->call) {
+    case PACK:
+    case PACK_2: return done->record + COUNT;
+    case EITHER: return done->record + FORM_COUNT;
+    default: return done->record;
+    }
 }
 
 static size_t written_size(const struct done *done)
 {
-    return done->call == UNPACK ? *counted(done) * 4 * sizeof(uint32_t) : *counted(done);
+    return done->call == UNPACK || done->call == EITHER ? *counted(done) * 4 * sizeof(uint32_t) : *counted(done);
 }
 
 static bool writes_past_what_is_lent(struct done *done)
@@ -398,9 +406,261 @@ static bool says_3_for_11(struct done *done)
     return says(done, THRINVAGE_NO_TOKEN, THRINVAGE_NO_READING);
 }
 
+static bool says_14_for_18(struct done *done)
+{
+    return says(done, THRINVAGE_NO_PACK, THRINVAGE_UNKNOWN_VERSION);
+}
+
+static bool says_18_for_14(struct done *done)
+{
+    return says(done, THRINVAGE_UNKNOWN_VERSION, THRINVAGE_NO_PACK);
+}
+
+static bool says_9_for_18(struct done *done)
+{
+    return says(done, THRINVAGE_NO_ROOM, THRINVAGE_UNKNOWN_VERSION);
+}
+
+static bool says_18_of_no_bytes(struct done *done)
+{
+    return done->length == 0 && (done->number = THRINVAGE_UNKNOWN_VERSION, true);
+}
+
+static bool says_18_of_another_version(struct done *done)
+{
+    return done->length > 0 && done->text[0] != 1 && says_18_for_14(done);
+}
+
 static bool refuses_elsewhere_than_at_0(struct done *done)
 {
     return done->number == THRINVAGE_NO_ROOM && (done->record[REFUSED_AT] = 1, true);
+}
+
+/* ---- in form 2, and in what reads or moves both */
+
+static uint32_t field(const uint8_t *at)
+{
+    return 256u * at[0] + at[1];
+}
+
+static void put_field(uint8_t *at, size_t number)
+{
+    at[0] = (uint8_t)(number / 256);
+    at[1] = (uint8_t)number;
+}
+
+/* The line that is written becomes this one, if it is another. */
+static bool gives_line(struct done *done, size_t line)
+{
+    return is_read(done) && field(done->lent + LINE_AT) != line && (put_field(done->lent + LINE_AT, line), true);
+}
+
+static bool gives_a_line_more(struct done *done)
+{
+    return is_read(done) && gives_line(done, field(done->lent + LINE_AT) + 1);
+}
+
+static bool gives_a_line_less(struct done *done)
+{
+    return is_read(done) && gives_line(done, field(done->lent + LINE_AT) - 1);
+}
+
+static bool gives_no_line(struct done *done)
+{
+    return gives_line(done, 0);
+}
+
+static bool gives_a_line_of_one_byte(struct done *done)
+{
+    return is_read(done) && gives_line(done, done->lent[LINE_AT + 1]);
+}
+
+static bool gives_the_line_little_endian(struct done *done)
+{
+    return is_read(done) && gives_line(done, done->lent[LINE_AT] + 256u * done->lent[LINE_AT + 1]);
+}
+
+static bool gives_the_line_of_the_cursor(struct done *done)
+{
+    return gives_line(done, done->line + 1);
+}
+
+static bool gives_the_line_behind_the_clause(struct done *done)
+{
+    return is_read(done) && gives_line(done, done->record[LINE] + 1);
+}
+
+uint32_t __real_thrinvage_next_token(const uint8_t *text, size_t length, size_t offset, size_t line, size_t column, struct thrinvage_token *token);
+
+static bool gives_the_line_behind_the_first_token(struct done *done)
+{
+    struct thrinvage_token token;
+    return is_read(done) && __real_thrinvage_next_token(done->text, done->length, done->offset, done->line, 0, &token) == 0 && gives_line(done, token.line + 1);
+}
+
+/* Though the cursor may have been given another. */
+static bool gives_the_line_of_the_text(struct done *done)
+{
+    size_t newlines = 0;
+    for (size_t i = 0; i < done->offset; i++)
+        newlines += done->text[i] == '\n';
+    return is_read(done) && gives_line(done, field(done->lent + LINE_AT) - done->line + newlines);
+}
+
+static bool refuses_line(struct done *done, size_t line)
+{
+    return is_read(done) && field(done->lent + LINE_AT) == line && (done->number = THRINVAGE_NO_PACK, true);
+}
+
+static bool refuses_line_0(struct done *done)
+{
+    return refuses_line(done, 0);
+}
+
+static bool refuses_line_65535(struct done *done)
+{
+    return refuses_line(done, 65535);
+}
+
+static bool writes_version(struct done *done, uint8_t version)
+{
+    return is_read(done) && (done->lent[0] = version, true);
+}
+
+static bool writes_version_1(struct done *done)
+{
+    return writes_version(done, 1);
+}
+
+static bool writes_version_2(struct done *done)
+{
+    return writes_version(done, 2);
+}
+
+/* The line is not counted in it, or is. */
+static bool writes_length(struct done *done, size_t more)
+{
+    return is_read(done) && (put_field(done->lent + LENGTH_AT, field(done->lent + LENGTH_AT) + more), true);
+}
+
+static bool forgets_the_line_in_the_length(struct done *done)
+{
+    return writes_length(done, (size_t)0 - 2);
+}
+
+static bool keeps_the_line_in_the_length(struct done *done)
+{
+    return writes_length(done, 2);
+}
+
+/* Form 1 has it too, and the length says so. */
+static bool keeps_the_line(struct done *done)
+{
+    if (!is_read(done) || done->lent_size < done->length)
+        return false;
+    memcpy(done->lent + LENGTH_AT, done->text + LENGTH_AT, done->length - LENGTH_AT);
+    *done->record = done->length;
+    return true;
+}
+
+static bool takes_what_is_too_long(struct done *done)
+{
+    return done->number == THRINVAGE_TOO_LONG && (done->number = THRINVAGE_READ, true);
+}
+
+static bool says_13_of_the_longest_that_fits(struct done *done)
+{
+    return is_read(done) && written_size(done) == LONGEST_IMAGE && (done->number = THRINVAGE_TOO_LONG, true);
+}
+
+static bool says_13_of_the_longest(struct done *done)
+{
+    return is_read(done) && done->length == LONGEST_IMAGE && (done->number = THRINVAGE_TOO_LONG, true);
+}
+
+static bool takes_a_body_of_65534(struct done *done)
+{
+    return done->length == BODY_AT + 65534 && takes_what_is_too_long(done);
+}
+
+/* What has the other form already is copied. */
+static bool takes_the_other_form(struct done *done)
+{
+    uint8_t other = done->call == UP ? 2 : 1;
+    if (done->number != THRINVAGE_UNKNOWN_VERSION || done->text[0] != other || done->lent_size < done->length)
+        return false;
+    memcpy(done->lent, done->text, done->length);
+    *done->record = done->length;
+    done->number = THRINVAGE_READ;
+    return true;
+}
+
+static bool refuses_form_2(struct done *done)
+{
+    return is_read(done) && done->record[FORM] == 2 && (done->number = THRINVAGE_UNKNOWN_VERSION, true);
+}
+
+static bool gives_another_form(struct done *done)
+{
+    return is_read(done) && (done->record[FORM] = 3 - done->record[FORM], true);
+}
+
+/* The clause's, counted from 0. */
+static bool gives_the_line_before(struct done *done)
+{
+    return is_read(done) && done->record[FORM_LINE] > 0 && (done->record[FORM_LINE] -= 1, true);
+}
+
+static bool gives_form_1_a_line(struct done *done)
+{
+    return is_read(done) && done->record[FORM] == 1 && (done->record[FORM_LINE] = 1, true);
+}
+
+static bool reads_the_line_little_endian(struct done *done)
+{
+    uint64_t line = done->record[FORM_LINE];
+    return is_read(done) && (done->record[FORM_LINE] = line % 256 * 256 + line / 256, true);
+}
+
+static bool writes_the_form_on_a_refusal(struct done *done)
+{
+    return is_refused(done) && (done->record[FORM] ^= 1, true);
+}
+
+/* Spellings start two bytes before where they do. */
+static bool counts_starts_as_in_form_1(struct done *done)
+{
+    if (!is_read(done) || done->record[FORM] != 2)
+        return false;
+    for (uint32_t *node = (uint32_t *)done->lent; node < (uint32_t *)done->lent + 4 * *counted(done); node += 4)
+        node[2] -= 2;
+    return true;
+}
+
+uint32_t __real_thrinvage_unpack(const uint8_t *image, size_t length, uint32_t *nodes, size_t room, uint64_t *count);
+uint32_t __real_thrinvage_unpack_either(const uint8_t *image, size_t length, uint32_t *nodes, size_t room, struct thrinvage_unpacked *unpacked);
+
+static bool shows_form_2(struct done *done)
+{
+    struct thrinvage_unpacked unpacked;
+    if (done->length == 0 || done->text[0] != 2)
+        return false;
+    done->number = __real_thrinvage_unpack_either(done->text, done->length, (uint32_t *)done->lent, done->lent_size / sizeof(uint32_t), &unpacked);
+    if (is_read(done))
+        *done->record = unpacked.count;
+    return true;
+}
+
+/* What is of form 2 is read as if its version were 1: few such are a pack, and of another clause. */
+static bool does_not_look_at_the_version(struct done *done)
+{
+    static uint8_t image[65600];
+    if (done->length == 0 || done->text[0] != 2)
+        return false;
+    memcpy(image, done->text, done->length);
+    image[0] = 1;
+    done->number = __real_thrinvage_unpack(image, done->length, (uint32_t *)done->lent, done->lent_size / sizeof(uint32_t), done->record);
+    return true;
 }
 
 /* ---- nothing to put: the archive was told of a byte or a number more than there is */
@@ -423,7 +683,11 @@ static bool is_told_of_more_nodes(struct done *done)
 /* Of the calls that have no part in packs, all; else one call alone. */
 #define FAULT(name) {#name, name, CALLS}
 #define FAULT_IN(call, name) {#name "_in_" #call, name, call}
-#define FAULT_IN_EACH(name) FAULT_IN(PACK, name), FAULT_IN(UNPACK, name), FAULT_IN(NODES, name)
+#define FAULT_IN_PACKING(name) FAULT_IN(PACK, name), FAULT_IN(PACK_2, name)
+#define FAULT_IN_NODES(name) FAULT_IN(NODES, name), FAULT_IN(NODES_2, name)
+#define FAULT_IN_UNPACKING(name) FAULT_IN(UNPACK, name), FAULT_IN(EITHER, name)
+#define FAULT_IN_MOVING(name) FAULT_IN(UP, name), FAULT_IN(DOWN, name)
+#define FAULT_IN_EACH(name) FAULT_IN_PACKING(name), FAULT_IN_NODES(name), FAULT_IN_UNPACKING(name), FAULT_IN_MOVING(name)
 
 static const struct fault {
     const char *name;
@@ -475,46 +739,109 @@ static const struct fault {
     FAULT(is_told_of_more_room),
     FAULT_IN_EACH(reads_past_the_text),
     FAULT_IN_EACH(reads_before_the_text),
-    FAULT_IN(NODES, reads_past_the_nodes),
+    FAULT_IN_NODES(reads_past_the_nodes),
     FAULT_IN_EACH(writes_past_what_is_lent),
     FAULT_IN_EACH(writes_before_what_is_lent),
     FAULT_IN_EACH(writes_past_the_record),
     FAULT_IN_EACH(writes_before_the_record),
     FAULT_IN_EACH(changes_the_text),
-    FAULT_IN(NODES, changes_the_nodes),
+    FAULT_IN_NODES(changes_the_nodes),
     FAULT_IN_EACH(writes_what_is_lent_on_a_refusal),
     FAULT_IN_EACH(writes_the_last_field_on_a_refusal),
     FAULT_IN_EACH(writes_behind_the_answer),
     FAULT_IN_EACH(writes_another_first_byte),
     FAULT_IN_EACH(writes_another_last_byte),
     FAULT_IN_EACH(writes_another_byte_now_and_then),
-    FAULT_IN(UNPACK, gives_another_kind),
-    FAULT_IN(UNPACK, gives_another_arity),
-    FAULT_IN(UNPACK, gives_another_start),
-    FAULT_IN(UNPACK, gives_another_length),
+    FAULT_IN_UNPACKING(gives_another_kind),
+    FAULT_IN_UNPACKING(gives_another_arity),
+    FAULT_IN_UNPACKING(gives_another_start),
+    FAULT_IN_UNPACKING(gives_another_length),
     FAULT_IN_EACH(counts_one_less),
     FAULT_IN_EACH(counts_one_more),
     FAULT_IN_EACH(refuses_what_is_read),
     FAULT_IN_EACH(reads_what_is_refused),
     FAULT_IN_EACH(refuses_by_15),
-    FAULT_IN(UNPACK, says_9_for_14),
-    FAULT_IN(NODES, says_9_for_14),
+    FAULT_IN_NODES(says_9_for_14),
+    FAULT_IN_UNPACKING(says_9_for_14),
+    FAULT_IN_MOVING(says_9_for_14),
     FAULT_IN_EACH(says_14_for_9),
-    FAULT_IN(NODES, says_13_for_14),
-    FAULT_IN(PACK, says_9_for_13),
-    FAULT_IN(NODES, says_9_for_13),
-    FAULT_IN(PACK, says_3_for_11),
-    FAULT_IN(PACK, refuses_elsewhere_than_at_0),
-    FAULT_IN(PACK, refuses_behind_the_text),
-    FAULT_IN(PACK, moves_the_cursor_on_a_refusal),
-    FAULT_IN(PACK, is_refused_at_something_and_read),
-    FAULT_IN(PACK, moves_no_cursor),
-    FAULT_IN(PACK, counts_a_line_more),
-    FAULT_IN(PACK, counts_a_column_more),
-    FAULT_IN(PACK, is_told_of_a_longer_text),
-    FAULT_IN(NODES, is_told_of_a_longer_text),
+    FAULT_IN_NODES(says_13_for_14),
+    FAULT_IN(UP, says_13_for_14),
+    FAULT_IN_PACKING(says_9_for_13),
+    FAULT_IN_NODES(says_9_for_13),
+    FAULT_IN(UP, says_9_for_13),
+    FAULT_IN_PACKING(says_3_for_11),
+    FAULT_IN_PACKING(refuses_elsewhere_than_at_0),
+    FAULT_IN_PACKING(refuses_behind_the_text),
+    FAULT_IN_PACKING(moves_the_cursor_on_a_refusal),
+    FAULT_IN_PACKING(is_refused_at_something_and_read),
+    FAULT_IN_PACKING(moves_no_cursor),
+    FAULT_IN_PACKING(counts_a_line_more),
+    FAULT_IN_PACKING(counts_a_column_more),
+    FAULT_IN_PACKING(is_told_of_a_longer_text),
+    FAULT_IN_NODES(is_told_of_a_longer_text),
     FAULT_IN_EACH(is_told_of_more_room),
-    FAULT_IN(NODES, is_told_of_more_nodes),
+    FAULT_IN_NODES(is_told_of_more_nodes),
+    /* the line */
+    FAULT_IN(PACK_2, gives_a_line_more),
+    FAULT_IN(PACK_2, gives_a_line_less),
+    FAULT_IN(PACK_2, gives_no_line),
+    FAULT_IN(PACK_2, gives_a_line_of_one_byte),
+    FAULT_IN(PACK_2, gives_the_line_little_endian),
+    FAULT_IN(PACK_2, gives_the_line_of_the_cursor),
+    FAULT_IN(PACK_2, gives_the_line_behind_the_clause),
+    FAULT_IN(PACK_2, gives_the_line_behind_the_first_token),
+    FAULT_IN(PACK_2, gives_the_line_of_the_text),
+    FAULT_IN(NODES_2, gives_a_line_more),
+    FAULT_IN(NODES_2, gives_a_line_less),
+    FAULT_IN(NODES_2, gives_no_line),
+    FAULT_IN(NODES_2, gives_a_line_of_one_byte),
+    FAULT_IN(NODES_2, gives_the_line_little_endian),
+    FAULT_IN(NODES_2, refuses_line_0),
+    FAULT_IN(NODES_2, refuses_line_65535),
+    FAULT_IN(EITHER, gives_the_line_before),
+    FAULT_IN(EITHER, gives_form_1_a_line),
+    FAULT_IN(EITHER, reads_the_line_little_endian),
+    FAULT_IN(UP, gives_a_line_more),
+    FAULT_IN(UP, gives_a_line_less),
+    FAULT_IN(DOWN, keeps_the_line),
+    /* the form */
+    FAULT_IN(PACK, writes_version_2),
+    FAULT_IN(PACK_2, writes_version_1),
+    FAULT_IN(NODES, writes_version_2),
+    FAULT_IN(NODES_2, writes_version_1),
+    FAULT_IN(UP, writes_version_1),
+    FAULT_IN(DOWN, writes_version_2),
+    FAULT_IN(UNPACK, shows_form_2),
+    FAULT_IN(UNPACK, does_not_look_at_the_version),
+    FAULT_IN(UNPACK, says_18_for_14),
+    FAULT_IN(UNPACK, says_18_of_another_version),
+    FAULT_IN(EITHER, refuses_form_2),
+    FAULT_IN(EITHER, gives_another_form),
+    FAULT_IN(EITHER, writes_the_form_on_a_refusal),
+    FAULT_IN(EITHER, counts_starts_as_in_form_1),
+    FAULT_IN(EITHER, says_14_for_18),
+    FAULT_IN(EITHER, says_18_for_14),
+    FAULT_IN(EITHER, says_9_for_18),
+    FAULT_IN(EITHER, says_18_of_no_bytes),
+    FAULT_IN_MOVING(says_14_for_18),
+    FAULT_IN_MOVING(says_18_for_14),
+    FAULT_IN_MOVING(says_9_for_18),
+    FAULT_IN_MOVING(says_18_of_no_bytes),
+    FAULT_IN_MOVING(takes_the_other_form),
+    /* the length, and what is too long */
+    FAULT_IN(PACK_2, forgets_the_line_in_the_length),
+    FAULT_IN(NODES_2, forgets_the_line_in_the_length),
+    FAULT_IN(UP, forgets_the_line_in_the_length),
+    FAULT_IN(DOWN, keeps_the_line_in_the_length),
+    FAULT_IN(PACK_2, takes_what_is_too_long),
+    FAULT_IN(NODES_2, takes_what_is_too_long),
+    FAULT_IN(UP, takes_what_is_too_long),
+    FAULT_IN(UP, takes_a_body_of_65534),
+    FAULT_IN(PACK_2, says_13_of_the_longest_that_fits),
+    FAULT_IN(NODES_2, says_13_of_the_longest_that_fits),
+    FAULT_IN(UP, says_13_of_the_longest_that_fits),
+    FAULT_IN(DOWN, says_13_of_the_longest),
 };
 
 enum { FAULTS = sizeof faults / sizeof *faults };
@@ -540,11 +867,12 @@ __attribute__((constructor)) static void choose_fault(void)
     fault = &faults[number];
 }
 
-/* One call in eight, the same ones whenever they come: only so do the checks of a single answer have to notice it. What is too long is rare: of that all. */
+/* One call in eight, the same ones whenever they come: only so do the checks of a single answer have to notice it. What is about as long as may be is rare:
+ * of that all. */
 static bool strikes(const struct done *done)
 {
     uint64_t mixed = (done->length * 31 + done->offset * 7 + done->lent_size * 3 + (uint64_t)done->call) * 0x9e3779b97f4a7c15u;
-    return mixed >> 61 == 0 || done->number == THRINVAGE_TOO_LONG;
+    return mixed >> 61 == 0 || done->number == THRINVAGE_TOO_LONG || done->length > 65500 || done->lent_size > 65500;
 }
 
 static uint32_t with_fault(struct done done)
@@ -572,18 +900,20 @@ static size_t told_room(enum call call, size_t room)
 }
 
 #define PLACE const uint8_t *text, size_t length, size_t offset, size_t line, size_t column
+#define NODES_GIVEN const uint8_t *bytes, size_t length, const uint32_t *nodes, size_t numbers, size_t count
 #define DONE(call, lent, lent_size, record, number) \
-    with_fault((struct done){call, (uint8_t *)text, length, offset, (uint8_t *)(lent), lent_size, (uint64_t *)(record), sizeof *(record), number, NULL, 0})
+    with_fault((struct done){call, (uint8_t *)text, length, offset, line, (uint8_t *)(lent), lent_size, (uint64_t *)(record), sizeof *(record), number, NULL, 0})
 
-uint32_t __real_thrinvage_next_token(PLACE, struct thrinvage_token *token);
 uint32_t __real_thrinvage_next_number_token(PLACE, struct thrinvage_token *token);
 uint32_t __real_thrinvage_next_token_text(PLACE, uint8_t *scratch, size_t room, struct thrinvage_token_text *token);
 uint32_t __real_thrinvage_read_clause(PLACE, uint16_t *tree, size_t room, struct thrinvage_clause *clause);
 uint32_t __real_thrinvage_list_clause(PLACE, uint8_t *out, size_t room, struct thrinvage_clause *clause);
 uint32_t __real_thrinvage_pack_clause(PLACE, uint8_t *out, size_t room, struct thrinvage_clause *clause);
-uint32_t __real_thrinvage_unpack(const uint8_t *image, size_t length, uint32_t *nodes, size_t room, uint64_t *count);
-uint32_t __real_thrinvage_pack_nodes(const uint8_t *bytes, size_t length, const uint32_t *nodes, size_t numbers, size_t count, uint8_t *out, size_t room,
-                                     uint64_t *packed);
+uint32_t __real_thrinvage_pack_clause_form_2(PLACE, uint8_t *out, size_t room, struct thrinvage_clause *clause);
+uint32_t __real_thrinvage_pack_nodes(NODES_GIVEN, uint8_t *out, size_t room, uint64_t *packed);
+uint32_t __real_thrinvage_pack_nodes_form_2(NODES_GIVEN, uint16_t line, uint8_t *out, size_t room, uint64_t *packed);
+uint32_t __real_thrinvage_move_up(const uint8_t *image, size_t length, uint8_t *out, size_t room, uint64_t *moved);
+uint32_t __real_thrinvage_move_down(const uint8_t *image, size_t length, uint8_t *out, size_t room, uint64_t *moved);
 
 uint32_t __wrap_thrinvage_next_token(PLACE, struct thrinvage_token *token)
 {
@@ -615,33 +945,50 @@ uint32_t __wrap_thrinvage_pack_clause(PLACE, uint8_t *out, size_t room, struct t
     return DONE(PACK, out, room, clause, __real_thrinvage_pack_clause(text, told(PACK, length), offset, line, column, out, told_room(PACK, room), clause));
 }
 
-uint32_t __wrap_thrinvage_unpack(const uint8_t *image, size_t length, uint32_t *nodes, size_t room, uint64_t *count)
+uint32_t __wrap_thrinvage_pack_clause_form_2(PLACE, uint8_t *out, size_t room, struct thrinvage_clause *clause)
 {
-    uint32_t number = __real_thrinvage_unpack(image, length, nodes, told_room(UNPACK, room), count);
-    return with_fault((struct done){.call = UNPACK,
-                                    .text = (uint8_t *)image,
-                                    .length = length,
-                                    .lent = (uint8_t *)nodes,
-                                    .lent_size = room * sizeof *nodes,
-                                    .record = count,
-                                    .record_size = sizeof *count,
-                                    .number = number});
+    return DONE(PACK_2, out, room, clause,
+                __real_thrinvage_pack_clause_form_2(text, told(PACK_2, length), offset, line, column, out, told_room(PACK_2, room), clause));
 }
 
-uint32_t __wrap_thrinvage_pack_nodes(const uint8_t *bytes, size_t length, const uint32_t *nodes, size_t numbers, size_t count, uint8_t *out, size_t room,
-                                     uint64_t *packed)
+#define IMAGE_DONE(call, image, length, lent, room, record, number) \
+    with_fault((struct done){call, (uint8_t *)(image), length, 0, 0, (uint8_t *)(lent), (room) * sizeof *(lent), (uint64_t *)(record), sizeof *(record), number, NULL, 0})
+
+uint32_t __wrap_thrinvage_unpack(const uint8_t *image, size_t length, uint32_t *nodes, size_t room, uint64_t *count)
 {
-    size_t told_numbers = numbers + (lies(NODES, is_told_of_more_nodes) ? 4 : 0);
-    uint32_t number =
-        __real_thrinvage_pack_nodes(bytes, told(NODES, length), nodes, told_numbers, count, out, told_room(NODES, room), packed);
-    return with_fault((struct done){.call = NODES,
-                                    .text = (uint8_t *)bytes,
-                                    .length = length,
-                                    .lent = out,
-                                    .lent_size = room,
-                                    .record = packed,
-                                    .record_size = sizeof *packed,
-                                    .number = number,
-                                    .nodes = (uint8_t *)nodes,
-                                    .nodes_size = numbers * sizeof *nodes});
+    return IMAGE_DONE(UNPACK, image, length, nodes, room, count, __real_thrinvage_unpack(image, length, nodes, told_room(UNPACK, room), count));
+}
+
+uint32_t __wrap_thrinvage_unpack_either(const uint8_t *image, size_t length, uint32_t *nodes, size_t room, struct thrinvage_unpacked *unpacked)
+{
+    return IMAGE_DONE(EITHER, image, length, nodes, room, unpacked, __real_thrinvage_unpack_either(image, length, nodes, told_room(EITHER, room), unpacked));
+}
+
+uint32_t __wrap_thrinvage_move_up(const uint8_t *image, size_t length, uint8_t *out, size_t room, uint64_t *moved)
+{
+    return IMAGE_DONE(UP, image, length, out, room, moved, __real_thrinvage_move_up(image, length, out, told_room(UP, room), moved));
+}
+
+uint32_t __wrap_thrinvage_move_down(const uint8_t *image, size_t length, uint8_t *out, size_t room, uint64_t *moved)
+{
+    return IMAGE_DONE(DOWN, image, length, out, room, moved, __real_thrinvage_move_down(image, length, out, told_room(DOWN, room), moved));
+}
+
+static size_t told_numbers(enum call call, size_t numbers)
+{
+    return numbers + (lies(call, is_told_of_more_nodes) ? 4 : 0);
+}
+
+#define NODES_DONE(call, number) \
+    with_fault((struct done){call, (uint8_t *)bytes, length, 0, 0, out, room, packed, sizeof *packed, number, (uint8_t *)nodes, numbers * sizeof *nodes})
+
+uint32_t __wrap_thrinvage_pack_nodes(NODES_GIVEN, uint8_t *out, size_t room, uint64_t *packed)
+{
+    return NODES_DONE(NODES, __real_thrinvage_pack_nodes(bytes, told(NODES, length), nodes, told_numbers(NODES, numbers), count, out, told_room(NODES, room), packed));
+}
+
+uint32_t __wrap_thrinvage_pack_nodes_form_2(NODES_GIVEN, uint16_t line, uint8_t *out, size_t room, uint64_t *packed)
+{
+    return NODES_DONE(NODES_2, __real_thrinvage_pack_nodes_form_2(bytes, told(NODES_2, length), nodes, told_numbers(NODES_2, numbers), count, line, out,
+                                                                  told_room(NODES_2, room), packed));
 }
