@@ -16,10 +16,10 @@ static size_t length;
 static uint8_t scratch[MOST_BYTES];
 static uint16_t tree[2048];
 static uint8_t line[70650];
-/* The text's first clause as a pack, and the nodes of that; none where it is refused. */
-static uint8_t image[THRINVAGE_IMAGE_BYTES], again[THRINVAGE_IMAGE_BYTES];
-static uint32_t nodes[THRINVAGE_NODE_NUMBERS];
-static struct thrinvage_clause packed;
+/* The text's first clause as a pack, in both forms, and the nodes of that in form 1; none where it is refused. */
+static uint8_t image[THRINVAGE_IMAGE_BYTES], image_2[THRINVAGE_IMAGE_BYTES], again[THRINVAGE_IMAGE_BYTES];
+static uint32_t nodes[THRINVAGE_NODE_NUMBERS], nodes_again[THRINVAGE_NODE_NUMBERS];
+static struct thrinvage_clause packed, packed_2;
 static uint64_t count;
 
 static void next_token(void) {
@@ -53,6 +53,11 @@ static void pack_clause(void) {
     thrinvage_pack_clause(text, length, 0, 0, 0, image, sizeof image, &packed);
 }
 
+static void pack_clause_form_2(void) {
+    packed_2.count = 0;
+    thrinvage_pack_clause_form_2(text, length, 0, 0, 0, image_2, sizeof image_2, &packed_2);
+}
+
 static void unpack(void) {
     count = 0;
     thrinvage_unpack(image, packed.count, nodes, THRINVAGE_NODE_NUMBERS, &count);
@@ -61,6 +66,27 @@ static void unpack(void) {
 static void pack_nodes(void) {
     uint64_t bytes = 0;
     thrinvage_pack_nodes(image, packed.count, nodes, THRINVAGE_NODE_NUMBERS, count, again, sizeof again, &bytes);
+}
+
+static void pack_nodes_form_2(void) {
+    uint64_t bytes = 0;
+    thrinvage_pack_nodes_form_2(image, packed.count, nodes, THRINVAGE_NODE_NUMBERS, count, 1, again, sizeof again, &bytes);
+}
+
+static void unpack_either(void) {
+    struct thrinvage_unpacked u = {0};
+    thrinvage_unpack_either(image, packed.count, nodes_again, THRINVAGE_NODE_NUMBERS, &u);
+    thrinvage_unpack_either(image_2, packed_2.count, nodes_again, THRINVAGE_NODE_NUMBERS, &u);
+}
+
+static void move_up(void) {
+    uint64_t bytes = 0;
+    thrinvage_move_up(image, packed.count, again, sizeof again, &bytes);
+}
+
+static void move_down(void) {
+    uint64_t bytes = 0;
+    thrinvage_move_down(image_2, packed_2.count, again, sizeof again, &bytes);
 }
 
 static const struct {
@@ -72,8 +98,13 @@ static const struct {
              {"thrinvage_read_clause", read_clause},
              {"thrinvage_list_clause", list_clause},
              {"thrinvage_pack_clause", pack_clause},
+             {"thrinvage_pack_clause_form_2", pack_clause_form_2},
              {"thrinvage_pack_nodes", pack_nodes},
-             {"thrinvage_unpack", unpack}};
+             {"thrinvage_pack_nodes_form_2", pack_nodes_form_2},
+             {"thrinvage_unpack", unpack},
+             {"thrinvage_unpack_either", unpack_either},
+             {"thrinvage_move_up", move_up},
+             {"thrinvage_move_down", move_down}};
 
 /* Texts that go deep, each in its own way: `front`, `open` so many times, `middle`, `close` as often, `back`. */
 static const struct {
@@ -103,6 +134,7 @@ static void make_text(size_t which) {
     put(TEXTS[which].close, TEXTS[which].count);
     put(TEXTS[which].back, 1);
     pack_clause();
+    pack_clause_form_2();
     unpack();
 }
 
