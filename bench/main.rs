@@ -3,6 +3,8 @@ mod clock;
 #[cfg(packs)]
 mod coders;
 mod cut;
+#[cfg(form_2)]
+mod forms;
 #[cfg(packs)]
 mod packs;
 mod race;
@@ -100,6 +102,8 @@ fn run(options: &Options) {
     print("The clause call beside the token calls", TOKENS, ["token calls", "clause call"], &lines);
     #[cfg(packs)]
     packs::run(&of_clauses, options.rounds);
+    #[cfg(form_2)]
+    forms::run(&of_clauses, options.rounds);
 }
 
 fn main() -> ExitCode {

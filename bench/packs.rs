@@ -1,5 +1,5 @@
 //! Times of packing and unpacking: the archive beside the plain coder, over the same clauses, images and nodes.
-use crate::coders::{ARCHIVE, ByHand, Coder, NUMBERS, PLAIN, pack_clause};
+use crate::coders::{ByHand, CODERS, Coder, NUMBERS, pack_clause};
 use crate::cut::Batch;
 use crate::race::race;
 use crate::readers::Reader;
@@ -8,8 +8,8 @@ use crate::thrinvage::Cursor;
 use std::hint::black_box;
 
 /// Room that always serves.
-const IMAGE_BYTES: usize = 65_538;
-const NODE_NUMBERS: usize = 4_092;
+pub const IMAGE_BYTES: usize = 65_538;
+pub const NODE_NUMBERS: usize = 4_092;
 
 /// An image, and its nodes.
 struct Pack {
@@ -33,21 +33,56 @@ impl Pack {
 }
 
 /// What both coders answer.
-fn both<A: PartialEq + std::fmt::Debug>(by: impl Fn(Coder) -> A) -> A {
-    let answer = by(ARCHIVE);
-    assert_eq!(answer, by(PLAIN), "the two coders answer differently");
+pub fn both<C, A: PartialEq + std::fmt::Debug>([archive, plain]: [C; 2], by: impl Fn(C) -> A) -> A {
+    let answer = by(archive);
+    assert_eq!(answer, by(plain), "the two coders answer differently");
     answer
 }
 
+/// The packs of all clauses of a batch.
+pub fn packs_of<P>(batch: &Batch, next_pack: fn(&[u8], Cursor) -> Option<(P, Cursor)>) -> Vec<P> {
+    let mut packs = Vec::new();
+    for text in &batch.pieces {
+        let mut at = Cursor::default();
+        while let Some((pack, next)) = next_pack(text, at) {
+            packs.push(pack);
+            at = next;
+        }
+    }
+    assert_eq!(packs.len(), batch.clauses, "a clause that the clause call takes is not packed");
+    packs
+}
+
+/// Packs all clauses of a batch. That all of it was done is asked anew each time, at the cost of a comparison; so it is with the work below.
+pub fn packing(
+    batch: &Batch,
+    due: usize,
+    mut pack: impl FnMut(&[u8], Cursor, &mut [u8]) -> Option<(usize, Cursor)>,
+) -> impl FnMut() {
+    let mut out = vec![0; IMAGE_BYTES];
+    move || {
+        let mut bytes = 0;
+        for text in &batch.pieces {
+            let mut at = Cursor::default();
+            while let Some((length, next)) = pack(text, at, &mut out) {
+                black_box(&out);
+                bytes += length;
+                at = next;
+            }
+        }
+        assert_eq!(bytes, due, "a clause is not packed");
+    }
+}
+
 fn unpacked(image: &[u8]) -> Result<Vec<u32>, u32> {
-    both(|coder| {
+    both(CODERS, |coder| {
         let mut nodes = vec![0; NODE_NUMBERS];
         coder.unpack(image, &mut nodes).map(|count| nodes[..NUMBERS * count].to_vec())
     })
 }
 
 fn packed(pack: &Pack, room: usize) -> Result<Vec<u8>, u32> {
-    both(|coder| {
+    both(CODERS, |coder| {
         let mut out = vec![0; room];
         coder.pack_nodes(&pack.image, &pack.nodes, &mut out).map(|length| out[..length].to_vec())
     })
@@ -63,15 +98,7 @@ struct Packs<'b> {
 
 impl<'b> Packs<'b> {
     fn new(batch: &'b Batch) -> Packs<'b> {
-        let mut packs = Vec::new();
-        for text in &batch.pieces {
-            let mut at = Cursor::default();
-            while let Some((pack, next)) = Pack::new(text, at) {
-                packs.push(pack);
-                at = next;
-            }
-        }
-        assert_eq!(packs.len(), batch.clauses, "a clause that the clause call takes is not packed");
+        let packs = packs_of(batch, Pack::new);
         let nodes = packs.iter().map(|pack| pack.nodes.len() / NUMBERS).sum();
         let bytes = packs.iter().map(|pack| pack.image.len()).sum();
         Packs { batch, packs, nodes, bytes }
@@ -79,24 +106,6 @@ impl<'b> Packs<'b> {
 
     fn amount(&self) -> Amount {
         Amount { pieces: self.packs.len(), parts: self.nodes, bytes: self.bytes, ..self.batch.amount() }
-    }
-
-    // The work. That all of it was done is asked anew each time, at the cost of a comparison.
-
-    fn clauses_packed(&self, mut pack: impl FnMut(&[u8], Cursor, &mut [u8]) -> Option<(usize, Cursor)>) -> impl FnMut() {
-        let mut out = vec![0; IMAGE_BYTES];
-        move || {
-            let mut bytes = 0;
-            for text in &self.batch.pieces {
-                let mut at = Cursor::default();
-                while let Some((length, next)) = pack(text, at, &mut out) {
-                    black_box(&out);
-                    bytes += length;
-                    at = next;
-                }
-            }
-            assert_eq!(bytes, self.bytes, "a clause is not packed");
-        }
     }
 
     fn unpacked(&self, coder: Coder) -> impl FnMut() {
@@ -120,19 +129,19 @@ impl<'b> Packs<'b> {
         let mut by_hand = ByHand::new();
         let works: [Box<dyn FnMut()>; 3] = [
             Box::new(Reader::clause_call().over(self.batch)),
-            Box::new(self.clauses_packed(pack_clause)),
-            Box::new(self.clauses_packed(move |text, at, out| by_hand.pack_clause(text, at, out))),
+            Box::new(packing(self.batch, self.bytes, pack_clause)),
+            Box::new(packing(self.batch, self.bytes, move |text, at, out| by_hand.pack_clause(text, at, out))),
         ];
         let [read, packed, by_hand] = race(works, rounds);
         (Line { of: self.batch.amount(), times: [read, packed] }, Line { of: self.amount(), times: [packed, by_hand] })
     }
 
     fn line_of_images(&self, rounds: usize) -> Line {
-        Line { of: self.amount(), times: race([ARCHIVE, PLAIN].map(|coder| self.unpacked(coder)), rounds) }
+        Line { of: self.amount(), times: race(CODERS.map(|coder| self.unpacked(coder)), rounds) }
     }
 
     fn line_of_nodes(&self, rounds: usize) -> Line {
-        Line { of: self.amount(), times: race([ARCHIVE, PLAIN].map(|coder| self.nodes_packed(coder)), rounds) }
+        Line { of: self.amount(), times: race(CODERS.map(|coder| self.nodes_packed(coder)), rounds) }
     }
 }
 
