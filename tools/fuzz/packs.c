@@ -206,8 +206,7 @@ struct given_nodes {
 /* Another reading of "what is packed is unpacked to the same": by the archive itself, form, kinds, arities and spellings. */
 static void check_unpacked(struct random *random, const struct given_nodes *given, const struct text *image)
 {
-    struct due due = due_of(EITHER, image);
-    take(random, EITHER, image, NUMBERS * given->count, due);
+    struct due due = try_call(random, EITHER, image);
     must(due.number == THRINVAGE_READ, "packed nodes are not unpacked");
     must(due.record[0] == given->form.version && due.record[1] == given->form.line, "packed nodes are unpacked to another form or line");
     must(due.record[2] == given->count, "packed nodes are unpacked to another count");
@@ -305,8 +304,7 @@ static void check_moved(struct random *random, const struct text *image, enum ca
     copy_text(&again, image->bytes, image->length);
     if (move == DOWN)
         memset(again.bytes + LINE_AT, 0, FIELD_BYTES);
-    due = due_of(back, &moved);
-    take(random, back, &moved, image->length, due);
+    due = try_call(random, back, &moved);
     must(due.number == THRINVAGE_READ && due.size == again.length && is_same(due.written, again.bytes, due.size), "what is moved and moved back is another");
 }
 
@@ -323,6 +321,7 @@ static void try_image(struct random *random, const struct text *image)
         return;
     struct given_nodes given = {form, image, &nodes, NUMBERS * nodes.count, nodes.count};
     pack(random, &given, image->length, image, THRINVAGE_READ);
+    pack(random, &given, image->length - 1, image, THRINVAGE_READ);
     given.form = (struct form){3 - form.version, 0};
     try_nodes(random, &given);
     for (size_t more = random_below(random, 3); more > 0; more--)
