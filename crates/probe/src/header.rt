@@ -164,8 +164,12 @@ fn is_call(b: u8) -> bool {
         b'c' => true,
         b'C' => true,
         b'p' => true,
+        b'P' => true,
         b'u' => true,
         b'k' => true,
+        b'K' => true,
+        b'm' => true,
+        b'M' => true,
         _ => false,
     }
 }

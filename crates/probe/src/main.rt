@@ -18,6 +18,8 @@ use output::OUTPUT;
 use output::Told;
 use output::flush;
 use output::put_bytes;
+use pack::Version;
+use packs::move_case;
 use packs::nodes_case;
 use packs::pack_case;
 use packs::unpack_case;
@@ -54,9 +56,13 @@ fn answer(
     room: usize,
 ) -> Told {
     match call {
-        b'p' => pack_case(out, filled, body, cursor, room),
+        b'p' => pack_case(out, filled, body, cursor, Version::One, room),
+        b'P' => pack_case(out, filled, body, cursor, Version::Two, room),
         b'u' => unpack_case(out, filled, body, room),
-        b'k' => nodes_case(out, filled, body, room),
+        b'k' => nodes_case(out, filled, Version::One, body, room),
+        b'K' => nodes_case(out, filled, Version::Two, body, room),
+        b'm' => move_case(out, filled, Version::Two, body, room),
+        b'M' => move_case(out, filled, Version::One, body, room),
         _ => read_case(out, filled, call, body, cursor, room),
     }
 }

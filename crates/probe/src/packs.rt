@@ -11,8 +11,10 @@ use crate::output::put_pairs;
 use lexer::Cursor;
 use lexer::Fault;
 use pack::ClausePackAnswer;
+use pack::Form;
 use pack::PackAnswer;
 use pack::UnpackAnswer;
+use pack::Version;
 ghost use Prim.Native.Nat.{_*_, _+_, _≤_};
 ghost use lib.ListN.{length};
 ghost use Rattle.probe.specs.Given.{largestWords};
@@ -76,9 +78,10 @@ fn clause_pack_lines(
     filled: usize,
     text: &[u8],
     cursor: Cursor,
+    version: Version,
     image: &mut [u8],
 ) -> usize {
-    let answer = pack::pack_clause(text, cursor, image);
+    let answer = pack::pack_clause(text, cursor, version, image);
     let line = clause_answer_line(out, filled, answer);
     image_line(out, line, image)
 }
@@ -88,33 +91,46 @@ pub(crate) fn pack_case(
     filled: usize,
     text: &[u8],
     cursor: Cursor,
+    version: Version,
     room: usize,
 ) -> Told {
     if room > LARGEST_IMAGE {
         return Told::Malformed;
     }
     let mut image = [FILL; LARGEST_IMAGE];
-    Told::Filled(clause_pack_lines(out, filled, text, cursor, &mut image[0..room]))
+    Told::Filled(clause_pack_lines(out, filled, text, cursor, version, &mut image[0..room]))
 }
 
 // ---- unpacking
 
-fn count_line(out: &mut [u8], filled: usize, count: usize) -> usize {
+// The version byte and the line field.
+fn put_form(out: &mut [u8], filled: usize, form: Form) -> usize {
+    match form {
+        Form::One => put_bytes(out, filled, b" 1 0"),
+        Form::Two(line) => {
+            let named = put_bytes(out, filled, b" 2");
+            put_number(out, named, line as u64)
+        }
+    }
+}
+
+fn nodes_line(out: &mut [u8], filled: usize, form: Form, count: usize) -> usize {
     let named = put_bytes(out, filled, b"nodes");
     let with_count = put_number(out, named, count as u64);
-    put(out, with_count, b'\n')
+    let with_form = put_form(out, with_count, form);
+    put(out, with_form, b'\n')
 }
 
 fn unpack_answer_line(out: &mut [u8], filled: usize, answer: UnpackAnswer) -> usize {
     match answer {
-        UnpackAnswer::Nodes(count) => count_line(out, filled, count),
+        UnpackAnswer::Nodes { form, count } => nodes_line(out, filled, form, count),
         UnpackAnswer::Refused(fault) => refused_at_start(out, filled, fault),
     }
 }
 
 // The call, with these nodes.
 fn unpack_lines(out: &mut [u8], filled: usize, image: &[u8], nodes: &mut [u32]) -> usize {
-    let answer = pack::unpack(image, nodes);
+    let answer = pack::unpack_either(image, nodes);
     let line = unpack_answer_line(out, filled, answer);
     slice_line(out, line, nodes)
 }
@@ -129,19 +145,55 @@ pub(crate) fn unpack_case(out: &mut [u8], filled: usize, image: &[u8], room: usi
     Told::Filled(unpack_lines(out, filled, image, &mut nodes[0..numbers]))
 }
 
-// ---- packing of given nodes
+// ---- packing of given nodes, and the moves
 
-fn pack_line(out: &mut [u8], filled: usize, length: usize) -> usize {
-    let named = put_bytes(out, filled, b"pack");
+// A line that tells a length.
+fn length_line(out: &mut [u8], filled: usize, name: &[u8], length: usize) -> usize {
+    let named = put_bytes(out, filled, name);
     let with_length = put_number(out, named, length as u64);
     put(out, with_length, b'\n')
 }
 
-fn pack_answer_line(out: &mut [u8], filled: usize, answer: PackAnswer) -> usize {
+fn pack_answer_line(out: &mut [u8], filled: usize, name: &[u8], answer: PackAnswer) -> usize {
     match answer {
-        PackAnswer::Packed(length) => pack_line(out, filled, length),
+        PackAnswer::Packed(length) => length_line(out, filled, name, length),
         PackAnswer::Refused(fault) => refused_at_start(out, filled, fault),
     }
+}
+
+fn move_image(to: Version, image: &[u8], moved: &mut [u8]) -> PackAnswer {
+    match to {
+        Version::One => pack::move_down(image, moved),
+        Version::Two => pack::move_up(image, moved),
+    }
+}
+
+// The call, with this room for the other image.
+fn move_lines(
+    out: &mut [u8],
+    filled: usize,
+    to: Version,
+    image: &[u8],
+    moved: &mut [u8],
+) -> usize {
+    let answer = move_image(to, image, moved);
+    let line = pack_answer_line(out, filled, b"move", answer);
+    image_line(out, line, moved)
+}
+
+// The move to this version.
+pub(crate) fn move_case(
+    out: &mut [u8],
+    filled: usize,
+    to: Version,
+    image: &[u8],
+    room: usize,
+) -> Told {
+    if room > LARGEST_IMAGE {
+        return Told::Malformed;
+    }
+    let mut moved = [FILL; LARGEST_IMAGE];
+    Told::Filled(move_lines(out, filled, to, image, &mut moved[0..room]))
 }
 
 fn wide(b: u8) -> u32
@@ -173,6 +225,7 @@ fn read_words(words: &[u8], numbers: &mut [u32])
 fn given_lines(
     out: &mut [u8],
     filled: usize,
+    form: Form,
     words: &[u8],
     bytes: &[u8],
     nodes: &mut [u32],
@@ -181,12 +234,19 @@ fn given_lines(
     requires { ⌜ 2 * length (now nodes) ≤ length (now words) ⌝ }
 {
     read_words(words, nodes);
-    let answer = pack::pack_nodes(bytes, nodes, nodes.len() / NODE_NUMBERS, image);
-    let line = pack_answer_line(out, filled, answer);
+    let answer = pack::pack_nodes(bytes, nodes, nodes.len() / NODE_NUMBERS, form, image);
+    let line = pack_answer_line(out, filled, b"pack", answer);
     image_line(out, line, image)
 }
 
-fn given_case(out: &mut [u8], filled: usize, words: &[u8], bytes: &[u8], room: usize) -> Told
+fn given_case(
+    out: &mut [u8],
+    filled: usize,
+    form: Form,
+    words: &[u8],
+    bytes: &[u8],
+    room: usize,
+) -> Told
     requires { ⌜ length (now words) ≤ largestWords ⌝ }
 {
     if room > LARGEST_IMAGE {
@@ -198,6 +258,7 @@ fn given_case(out: &mut [u8], filled: usize, words: &[u8], bytes: &[u8], room: u
     Told::Filled(given_lines(
         out,
         filled,
+        form,
         words,
         bytes,
         &mut nodes[0..numbers],
@@ -205,8 +266,8 @@ fn given_case(out: &mut [u8], filled: usize, words: &[u8], bytes: &[u8], room: u
     ))
 }
 
-// The body: the count of nodes, their numbers, and the bytes that the spellings are parts of.
-pub(crate) fn nodes_case(out: &mut [u8], filled: usize, body: &[u8], room: usize) -> Told {
+// The count of nodes, their numbers, and the bytes that the spellings are parts of.
+fn given_body(out: &mut [u8], filled: usize, form: Form, body: &[u8], room: usize) -> Told {
     if body.len() < WORD {
         return Told::Malformed;
     }
@@ -218,5 +279,25 @@ pub(crate) fn nodes_case(out: &mut [u8], filled: usize, body: &[u8], room: usize
     if body.len() < end {
         return Told::Malformed;
     }
-    given_case(out, filled, &body[WORD..end], &body[end..], room)
+    given_case(out, filled, form, &body[WORD..end], &body[end..], room)
+}
+
+// Form 2 has the line before them.
+pub(crate) fn nodes_case(
+    out: &mut [u8],
+    filled: usize,
+    version: Version,
+    body: &[u8],
+    room: usize,
+) -> Told {
+    match version {
+        Version::One => given_body(out, filled, Form::One, body, room),
+        Version::Two => {
+            if body.len() < WORD {
+                return Told::Malformed;
+            }
+            let line = word_at(body, 0) as u16;
+            given_body(out, filled, Form::Two(line), &body[WORD..], room)
+        }
+    }
 }
