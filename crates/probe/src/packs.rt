@@ -169,13 +169,7 @@ fn move_image(to: Version, image: &[u8], moved: &mut [u8]) -> PackAnswer {
 }
 
 // The call, with this room for the other image.
-fn move_lines(
-    out: &mut [u8],
-    filled: usize,
-    to: Version,
-    image: &[u8],
-    moved: &mut [u8],
-) -> usize {
+fn move_lines(out: &mut [u8], filled: usize, to: Version, image: &[u8], moved: &mut [u8]) -> usize {
     let answer = move_image(to, image, moved);
     let line = pack_answer_line(out, filled, b"move", answer);
     image_line(out, line, moved)
