@@ -24,7 +24,7 @@ use Rattle.pack.specs.declared.reading.Counted.{Counted}
 use Rattle.pack.specs.declared.reading.Counted.the-variants.{Nodes, NoNodes}
 use Rattle.pack.specs.declared.reading.Judged.{Judged}
 use Rattle.pack.proofs.Basics.{Bytes, two-high, two-low, drop-two}
-use Rattle.pack.proofs.Images.{pack-version, pack-some, pack-counted, Read, Counts, counts, counted-pack}
+use Rattle.pack.proofs.Images.{pack-version, pack-some, pack-counted, Read, counts, counted-pack}
 
 -- a pack of a version that is known is read
 pub pack-read : {Known : ℕ → Type 0} (f : Form) (i : List ℕ) (ns : List Node) → IsPack f i ns → {w : Fault} → Unread Known i w → Known (version f) → ⊥

@@ -1,19 +1,17 @@
 -- The moves between the forms: there and back, and what the reader of form 1 alone makes of form 2. Assumes nothing.
 use Prim.Native.Nat.{ℕ, _+_, _≤_}
-use mathlib.Core.Path.{_≡_, refl, sym, _∙_, ap, subst}
+use mathlib.Core.Path.{_≡_, refl, _∙_, ap, subst}
 use mathlib.Core.List.{List}
 use native.Mathlib.Omega.{arith}
 use lib.ListN.{length, take}
 use lib.Seq.{sets}
 use Rattle.lexer.specs.Refusal.{numberOf, fault}
-use Rattle.lexer.specs.declared.refusal.Fault.{Fault}
 use Rattle.lexer.specs.declared.refusal.Refusal.the-variants.{TooLong, NoPack}
 use Rattle.pack.specs.Node.{Node, most}
 use Rattle.pack.specs.Image.{version, lineBytes, line, body, image, IsPack}
 use Rattle.pack.specs.Calls.{Written, packed, UnpackOutcome, empty, unknown}
 use Rattle.pack.specs.Calls as C
 use Rattle.pack.specs.Moves.{MoveOutcome, MoveUp, MoveDown}
-use Rattle.pack.specs.Passes.{versionByte}
 use Rattle.pack.specs.declared.format.Form.{Form}
 use Rattle.pack.specs.declared.format.Form.the-variants.{One, Two}
 use Rattle.pack.specs.declared.answers.PackAnswer.{PackAnswer}

@@ -172,7 +172,7 @@ fn form_in(s: &[u8], version: Version) -> Form
     }
 }
 
-// The same for an image that has this version byte.
+// What an image of this version is to a call that knows it.
 fn judge_nodes(image: &[u8], version: Version) -> Judged
     requires { ⌜ Begins (now image) version ⌝ }
     ensures { λ r. ⌜ Judgement version (now (image .entry)) r ⌝ }
@@ -209,7 +209,7 @@ pub fn unpack(image: &[u8], nodes: &mut [u32]) -> UnpackAnswer
     }
 }
 
-// The version to judge an image by. Where it is another than 1 and 2, it is none that a call knows.
+// The version to judge an image by: one that is neither 1 nor 2 is not that of form 1 either, and is refused so.
 fn version_in(image: &[u8]) -> Version
     ensures { λ r. ⌜ r ≡ versionIn (now (image .entry)) ⌝ }
 {

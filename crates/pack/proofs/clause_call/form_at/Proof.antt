@@ -8,7 +8,6 @@ use Rattle.lexer.specs.declared.cursor.Cursor.{Cursor}
 use Rattle.pack.specs.ClauseCall.{formAt}
 use Rattle.pack.specs.Passes.{mostHalf}
 use Rattle.pack.specs.Walk.{Ahead, LineAt}
-use Rattle.pack.specs.declared.format.Form.{Form}
 use Rattle.pack.specs.declared.format.Form.the-variants.{One, Two}
 use Rattle.pack.specs.declared.format.Version.{Version}
 use Rattle.pack.proofs.clause_call.form_at.Statement.{statement}

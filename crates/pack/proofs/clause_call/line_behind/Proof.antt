@@ -1,7 +1,6 @@
 -- `pack::clause_call::line_behind` meets its contract. Assumes nothing.
 use Prim.Native.Nat.{ℕ, _+_}
 use mathlib.Core.Path.{_≡_}
-use native.Mathlib.Omega.{arith}
 use borrow.Author.Needs.{needs}
 use borrow.Author.Tests.{ne-eqb}
 use Rattle.pack.specs.Walk.{lineBehind}

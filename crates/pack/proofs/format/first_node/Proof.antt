@@ -1,6 +1,6 @@
 -- `pack::format::first_node` meets its contract. Assumes nothing.
 use Prim.Native.Nat.{ℕ}
-use mathlib.Core.Path.{_≡_, refl, ap, _∙_, sym}
+use mathlib.Core.Path.{_≡_, ap, sym}
 use borrow.Author.Needs.{needs}
 use Rattle.pack.specs.Image.{lineBytes}
 use Rattle.pack.specs.Calls.{begins}

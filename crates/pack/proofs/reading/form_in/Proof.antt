@@ -4,9 +4,7 @@ use mathlib.Core.Path.{_≡_, sym, ap, _∙_}
 use mathlib.Core.List.{List}
 use native.Mathlib.Omega.{arith}
 use borrow.Author.Needs.{needs}
-use lib.ListN.{length}
-use Rattle.pack.specs.Passes.{mostHalf, wordAt, Inside, Word, formIn}
-use Rattle.pack.specs.declared.format.Form.{Form}
+use Rattle.pack.specs.Passes.{mostHalf, Inside, Word, formIn}
 use Rattle.pack.specs.declared.format.Form.the-variants.{One, Two}
 use Rattle.pack.specs.declared.format.Version.{Version}
 use Rattle.pack.proofs.reading.form_in.Statement.{statement}

@@ -1,10 +1,9 @@
 -- `pack::reading::judge_nodes` meets its contract. Assumes nothing.
-use Prim.Native.Nat.{ℕ, _+_, _≤_}
+use Prim.Native.Nat.{ℕ}
 use mathlib.Core.Path.{_≡_, sym, ap, _∙_, subst}
 use mathlib.Core.List.{List}
 use native.Mathlib.Omega.{arith}
 use borrow.Author.Needs.{needs}
-use lib.ListN.{length}
 use Rattle.lexer.specs.Refusal.{fault}
 use Rattle.lexer.specs.declared.refusal.Refusal.the-variants.{NoPack}
 use Rattle.pack.specs.Passes.{Inside, counted, Skips, lineSize, formIn, Begins, Judgement}
