@@ -1,4 +1,4 @@
--- `ffi_pack::put_form` meets its contract. Assumes nothing.
+-- `ffi_forms::put_form` meets its contract. Assumes nothing.
 use Prim.Native.Nat.{ℕ}
 use mathlib.Core.Path.{_≡_}
 use mathlib.Core.List.{List}
@@ -8,9 +8,9 @@ use lib.Seq.{sets}
 use Rattle.pack.specs.Image.{version, line}
 use Rattle.pack.specs.declared.format.Form.{Form}
 use Rattle.pack.specs.declared.format.Form.the-variants.{One, Two}
-use Rattle.ffi_pack.specs.Packs.{formFields}
-use Rattle.ffi_pack.proofs.put_form.Statement.{statement}
-use Rattle.ffi_pack.proofs.put_form.Tie as tie
+use Rattle.ffi_forms.specs.Either.{formFields}
+use Rattle.ffi_forms.proofs.put_form.Statement.{statement}
+use Rattle.ffi_forms.proofs.put_form.Tie as tie
 
 first : (d : List ℕ) (f : Form) → f ≡ One → set (set d 0 1) 1 0 ≡ sets d 0 (formFields f)
 unfolding version line

@@ -1,9 +1,9 @@
--- `ffi_pack::put_clause_pack` meets its contract. Assumes nothing.
+-- `fields_pack::put_clause_pack` meets its contract. Assumes nothing.
 use borrow.Author.Needs.{needs}
 use Rattle.fields.proofs.Theorems.{told-as}
-use Rattle.ffi_pack.specs.Packs.{clausePackLeaves}
-use Rattle.ffi_pack.proofs.put_clause_pack.Statement.{statement}
-use Rattle.ffi_pack.proofs.put_clause_pack.Tie as tie
+use Rattle.fields_pack.specs.Told.{clausePackLeaves}
+use Rattle.fields_pack.proofs.put_clause_pack.Statement.{statement}
+use Rattle.fields_pack.proofs.put_clause_pack.Tie as tie
 
 ruleset ways = (needs)
 

@@ -1,9 +1,9 @@
--- `ffi_pack::put_pack` meets its contract. Assumes nothing.
+-- `fields_pack::put_pack` meets its contract. Assumes nothing.
 use borrow.Author.Needs.{needs}
 use Rattle.fields.proofs.Theorems.{told-as}
-use Rattle.ffi_pack.specs.Packs.{packLeaves}
-use Rattle.ffi_pack.proofs.put_pack.Statement.{statement}
-use Rattle.ffi_pack.proofs.put_pack.Tie as tie
+use Rattle.fields_pack.specs.Told.{packLeaves}
+use Rattle.fields_pack.proofs.put_pack.Statement.{statement}
+use Rattle.fields_pack.proofs.put_pack.Tie as tie
 
 ruleset ways = (needs)
 

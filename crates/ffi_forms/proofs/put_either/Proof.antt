@@ -1,4 +1,4 @@
--- `ffi_pack::put_either` meets its contract. Assumes nothing.
+-- `ffi_forms::put_either` meets its contract. Assumes nothing.
 use Prim.Native.Nat.{ℕ}
 use mathlib.Core.Path.{_≡_}
 use mathlib.Core.List.{List}
@@ -9,9 +9,9 @@ use Rattle.pack.specs.declared.format.Form.{Form}
 use Rattle.pack.specs.declared.answers.UnpackAnswer.{UnpackAnswer}
 use Rattle.fields.specs.Fields.{leaves}
 use Rattle.fields.proofs.Theorems.{told-as}
-use Rattle.ffi_pack.specs.Packs.{formFields, eitherLeaves}
-use Rattle.ffi_pack.proofs.put_either.Statement.{statement}
-use Rattle.ffi_pack.proofs.put_either.Tie as tie
+use Rattle.ffi_forms.specs.Either.{formFields, eitherLeaves}
+use Rattle.ffi_forms.proofs.put_either.Statement.{statement}
+use Rattle.ffi_forms.proofs.put_either.Tie as tie
 
 told : (f : Form) (n : ℕ) (d g : List ℕ) (a : UnpackAnswer) → g ≡ sets d 0 (formFields f) → a ≡ UnpackAnswer.Nodes f n → leaves 0 (set g 2 n) ≡ eitherLeaves a d
 told f n d g a e h = cc
