@@ -1,7 +1,7 @@
 /* The Prolog reader, for C: bytes in; tokens, or a clause's tree, line or image, out; and an image's nodes.
  *
- * Each function of the archive is proved, for every argument, to answer as the call of the library that its name says (crates/ffi_token, ffi_clause,
- * ffi_pack and ffi); what that answer is stands in docs/CLAIMS.md. It allocates nothing, keeps nothing between two calls and writes only what it is lent,
+ * Each function of the archive is proved, for every argument, to answer as the call of the library that its name says (crates/ffi_token, ffi_clause, ffi_pack,
+ * ffi_forms and ffi); what that answer is stands in docs/CLAIMS.md. It allocates nothing, keeps nothing between two calls and writes only what it is lent,
  * so several threads may call at once.
  *
  * A text is of ASCII. Its lines end with byte 10, or with the bytes 13 and 10, as a file was saved; lines are counted by byte 10, and byte 13 is layout.
