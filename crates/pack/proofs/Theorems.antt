@@ -1,6 +1,6 @@
 -- What is proved of packs: of the format, over the form; of the calls on nodes and images; of a clause. Statements only: each cites its proof. Assumes
 -- nothing.
-use Prim.Native.Nat.{ℕ, _*_, _<_, _≤_}
+use Prim.Native.Nat.{ℕ, _+_, _*_, _<_, _≤_}
 use mathlib.Core.Path.{_≡_, sym, _∙_}
 use mathlib.Core.Bool.{true}
 use mathlib.Core.Logic.{_⊎_}
@@ -13,7 +13,7 @@ use Rattle.lexer.specs.declared.refusal.Fault.{Fault}
 use Rattle.lexer.specs.declared.refusal.Refusal.the-variants.{NoRoom, TooLong, NoPack}
 use Rattle.reader.specs.Token.{Token}
 use Rattle.reader.specs.Tree.{Tree}
-use Rattle.reader.specs.Clause.{Outcome}
+use Rattle.reader.specs.Clause.{firstOffset, Outcome}
 use Rattle.reader.specs.declared.clause.ClauseAnswer.{ClauseAnswer}
 use Rattle.reader.proofs.Specimens.{All}
 use Rattle.pack.specs.Node.{Node, nodes, most, mostNodes, Acceptable}
@@ -122,6 +122,11 @@ clause-fits = C.clause-fits
 pub clause-sent : (v : Version) (s : List ℕ) (c : Cursor) (d : List ℕ) (r : ClausePackAnswer) (x : List ℕ) (n : ℕ) (e : Cursor) → ClausePack (clauseForm v s c) s c d r x → r ≡ Packed n e
     → C.ClauseSent (clauseForm v s c) s c e (take n x)
 clause-sent = C.clause-sent
+
+-- (that is one more than the newlines before its first token, where the cursor's own line is the count of those before the cursor) ..
+pub clause-line : (s : List ℕ) (c : Cursor) (ts : List Token) (e : Cursor) (t : Tree) → ClauseAt s c ts e t → c .line ≡ K.newlines (take (c .offset) s)
+    → clauseForm Version.Two s c ≡ Two (K.newlines (take (firstOffset s c) s) + 1)
+clause-line = K.clause-line
 
 -- .. and unpacking it gives that form and the clause's kinds, arities and spellings.
 pub clause-received : (f : Form) (s : List ℕ) (c : Cursor) (e : Cursor) (i d : List ℕ) (r : UnpackAnswer) (x : List ℕ) → C.ClauseSent f s c e i → 4 * mostNodes ≤ length d

@@ -1,7 +1,7 @@
--- `pack::clause_call::line_at` meets its contract. The invariant: the lines from the cursor on are those from here on.
+-- `pack::clause_call::line_at` meets its contract. The invariant: the line and the newlines from here on are the cursor's line and those from there on.
 -- Assumes nothing.
 use Prim.Native.Nat.{ℕ, _+_, _-_, _<_, _≤_}
-use mathlib.Core.Path.{_≡_, refl, sym, _∙_, ap}
+use mathlib.Core.Path.{_≡_, refl, _∙_, ap}
 use mathlib.Core.List.{List}
 use native.Mathlib.Omega.{arith}
 use borrow.Author.Needs.{needs}
@@ -9,12 +9,12 @@ use lib.ListN.{length, getD}
 use Rattle.lexer.specs.Cursor.{longest, part}
 use Rattle.lexer.specs.declared.cursor.Cursor.{Cursor}
 use Rattle.pack.specs.Walk.{lineBehind, Ahead, LineAt}
-use Rattle.pack.proofs.Clauses.{linesOver, line-one, lines-begin, lines-end, lines-on}
+use Rattle.pack.proofs.Clauses.{newlines, line-at, line-one, lines-end, lines-on}
 use Rattle.pack.proofs.clause_call.line_at.Statement.{statement}
 use Rattle.pack.proofs.clause_call.line_at.Tie as tie
 
 record Inv (s : List ℕ) (o line₀ at₀ line at : ℕ) : Type 0 where
-  same : linesOver line (part at o s) ≡ linesOver line₀ (part at₀ o s)
+  same : line + newlines (part at o s) ≡ line₀ + newlines (part at₀ o s)
   before : line ≤ at
   place : at ≤ o
   inside : o < length s
@@ -36,7 +36,7 @@ module _ (s : List ℕ) (o : ℕ) where
       again r e =
           let k = line-one line (getD s at 0) in
           record {
-            same = ap (λ (l : ℕ). linesOver l (part (at + 1) o s)) e ∙ sym (lines-on s o at line h (v .inside)) ∙ v .same;
+            same = ap (λ (l : ℕ). l + newlines (part (at + 1) o s)) e ∙ lines-on s o at line h (v .inside) ∙ v .same;
             before = omega (arith, e, k, v .before);
             place = omega arith;
             inside = v .inside;
@@ -44,7 +44,7 @@ module _ (s : List ℕ) (o : ℕ) where
           }
 
   ended : (c : Cursor) (line at : ℕ) → Inv s o (c .line) (c .offset) line at → o ≤ at → LineAt s c o line
-  ended c line at v h = record { same = sym (lines-end s o at line h) ∙ v .same ∙ lines-begin s c o; before = omega (arith, v .before, v .place) }
+  ended c line at v h = record { same = omega (arith, v .same, lines-end s o at h, line-at s c o); before = omega (arith, v .before, v .place) }
 
 ruleset ways = (begin, ended, inside, small, again, needs)
 
