@@ -16,16 +16,16 @@ use Rattle.pack.proofs.Judging.{judged-unread, judged-found, old-refuse
 use Rattle.pack.proofs.reading.unpack.Statement.{statement}
 use Rattle.pack.proofs.reading.unpack.Tie as tie
 
+-- by whichever version it was judged
+some : (i : List ℕ) (v : Version) (j : Judged) → Judgement v i j → (f : Form) (n : ℕ) → j ≡ Judged.Pack f n → SomePack i f n
+some i v j o f n e = judged-found v i o f n e .pack
+
 module _ (i : List ℕ) (j : Judged) (o : Judgement Version.One i j) where
   refused : (d : List ℕ) (w : Fault) → j ≡ Judged.Refused w → UnpackOutcome i d (UnpackAnswer.Refused (fault NoPack 0)) d
   refused d w e = old-refused i d (judged-unread Version.One i o w e)
 
-  module _ (f : Form) (n : ℕ) (e : j ≡ Judged.Pack f n) where
-    some : SomePack i f n
-    some = judged-found Version.One i o f n e .pack
-
-    done : (d : List ℕ) (r : UnpackAnswer) (x : List ℕ) → PackListed i f d r x → UnpackOutcome i d r x
-    done d r x l = old-listed i d f n (judged-found Version.One i o f n e) l
+  done : (f : Form) (n : ℕ) → j ≡ Judged.Pack f n → (d : List ℕ) (r : UnpackAnswer) (x : List ℕ) → PackListed i f d r x → UnpackOutcome i d r x
+  done f n e d r x l = old-listed i d f n (judged-found Version.One i o f n e) l
 
 ruleset ways = (refused, some, done, needs)
 
