@@ -29,7 +29,8 @@ use Rattle.pack.specs.declared.answers.UnpackAnswer.{UnpackAnswer}
 use Rattle.pack.proofs.Images.{image-length}
 use Rattle.pack.proofs.Trips.{left-name, unpacked-so}
 use Rattle.pack.proofs.Packs.{some-written, one-written, front}
-use Rattle.pack.proofs.Clauses.{clause-acceptable, clause-ahead, form-fits}
+use Rattle.pack.proofs.Clauses.{clause-acceptable}
+use Rattle.pack.proofs.Lines.{clause-ahead, form-fits}
 
 -- a tree slice with room for every clause
 roomy : List ℕ

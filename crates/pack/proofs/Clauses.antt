@@ -6,28 +6,23 @@ use mathlib.Core.List.{List, [], _∷_, _++_, append-assoc, append-nil}
 use native.Mathlib.Omega.{arith}
 use lib.Dec.{eqb}
 use lib.ListN.{length, getD, take, drop, length-append, length-drop, take-append-drop}
-use lib.Seq.{take-add}
-use Rattle.lexer.specs.Chars.{newline}
-use Rattle.lexer.specs.Cursor.{step, walk, part, moveTo}
+use Rattle.lexer.specs.Cursor.{part}
 use Rattle.lexer.specs.declared.cursor.Cursor.{Cursor}
 use Rattle.lexer.proofs.Theorems.{is-valid}
 use Rattle.reader.specs.Token.{Token}
 use Rattle.reader.specs.Ops.{operators}
 use Rattle.reader.specs.Tree.{NodeKind, plain, negative, call, prefix, infx, list, listTail, curly, emptyList, emptyCurly, kindNumber, Tree, node, Forest, nil, _◂_, arity, packed, numbers, numbersAll}
 use Rattle.reader.specs.Listing.{shapeOf, lastToken, tokenAt, Source, Within, root, WithinAll, none, more}
-use Rattle.reader.specs.Clause.{firstOffset}
-use Rattle.reader.proofs.Theorems.{kind-and-arity, kind-number, clause-numbers, clause-starts}
+use Rattle.reader.proofs.Theorems.{kind-and-arity, kind-number, clause-numbers}
 use Rattle.pack.specs.Node.{Node, aNode, most, mostNodes, Fitting, Each, also, Acceptable}
 use Rattle.pack.specs.Node as N
-use Rattle.pack.specs.Image.{nodeBytes, nodesBytes, line}
-use Rattle.pack.specs.ClauseCall.{lastOf, packNode, packNodes, packAll, sourceOf, clauseNodes, ClauseAt, formAt, clauseForm}
-use Rattle.pack.specs.Walk.{lastAt, NodeAt, GivenNode, Lying, Walk, weight, nodesOf, lineBehind, Ahead}
+use Rattle.pack.specs.Image.{nodeBytes, nodesBytes}
+use Rattle.pack.specs.ClauseCall.{lastOf, packNode, packNodes, packAll, sourceOf, clauseNodes, ClauseAt}
+use Rattle.pack.specs.Walk.{lastAt, NodeAt, GivenNode, Lying, Walk, weight, nodesOf}
 use Rattle.pack.specs.Walk as M
 use Rattle.pack.specs.declared.nodes.Given.{Given}
-use Rattle.pack.specs.declared.format.Form.the-variants.{Two}
-use Rattle.pack.specs.declared.format.Version.{Version}
 use Rattle.pack.proofs.Arities.{Shaped, shaped, ShapedAll, noTree, aTree, reads-shaped}
-use Rattle.pack.proofs.Basics.{part-length, drop-one, drop-two}
+use Rattle.pack.proofs.Basics.{part-length, drop-two}
 use Rattle.pack.proofs.Scans.{node-length}
 
 -- ---- how many nodes
@@ -317,93 +312,3 @@ module _ (s ms : List ℕ) (at left : ℕ) (starts ends : List ℕ) (w : Walk s 
       nodes-node =
           ap (λ (n : ℕ). nodesOf s starts ends n (drop at ms)) one-more ∙ ap (nodesOf s starts ends (suc (left - 1))) (drop-two ms at (here .both))
           ∙ cc (g .kind-same, g .arity-same, g .start-same, g .size-same)
-
--- ---- the line of its first token
-module _ (s : List ℕ) (c : Cursor) (ts : List Token) (e : Cursor) (t : Tree) (o : ClauseAt s c ts e t) where
-  pub clause-ahead : Ahead s c (firstOffset s c)
-  clause-ahead =
-      let v = is-valid (length s) c (o .valid-cursor) in
-      let p = clause-starts s c ts e (o .valid-cursor) (o .gathered) in
-      record { behind = p .0; inside = p .1; short = v .short; line = v .line }
-
--- how many of the bytes are newlines
-pub newlines : List ℕ → ℕ
-newlines [] = 0
-newlines (x ∷ xs) = cond (eqb x newline) (newlines xs + 1) (newlines xs)
-
-by-byte : (b : Bool) (l n : ℕ) → cond b (l + 1) l + n ≡ l + cond b (n + 1) n
-by-byte true l n = omega arith
-by-byte false l n = refl
-
-at-most : (b : Bool) (n : ℕ) → cond b (n + 1) n ≤ n + 1
-at-most true n = omega arith
-at-most false n = omega arith
-
-newlines-few : (xs : List ℕ) → newlines xs ≤ length xs
-unfolding newlines
-newlines-few [] = omega arith
-newlines-few (x ∷ xs) = let h = newlines-few xs in let k = at-most (eqb x newline) (newlines xs) in omega arith
-
-added : (b : Bool) (n k m : ℕ) → n ≡ k + m → cond b (n + 1) n ≡ cond b (k + 1) k + m
-added true n k m h = omega arith
-added false n k m h = h
-
-newlines-append : (xs ys : List ℕ) → newlines (xs ++ ys) ≡ newlines xs + newlines ys
-unfolding newlines
-newlines-append [] ys = omega arith
-newlines-append (x ∷ xs) ys = added (eqb x newline) (newlines (xs ++ ys)) (newlines xs) (newlines ys) (newlines-append xs ys)
-
-walk-lines : (c : Cursor) (xs : List ℕ) → walk c xs .line ≡ c .line + newlines xs
-unfolding walk newlines
-walk-lines c [] = omega arith
-walk-lines c (x ∷ xs) = walk-lines (step c x) xs ∙ by-byte (eqb x newline) (c .line) (newlines xs)
-
--- the line at an offset is the cursor's, and the newlines from there
-pub line-at : (s : List ℕ) (c : Cursor) (o : ℕ) → moveTo s c o .line ≡ c .line + newlines (part (c .offset) o s)
-unfolding moveTo
-line-at s c o = walk-lines c (part (c .offset) o s)
-
-module _ (s : List ℕ) (c : Cursor) (o : ℕ) (a : Ahead s c o) where
-  pub line-before : moveTo s c o .line ≤ o
-  line-before =
-      let x = part (c .offset) o s in
-      let h : length x ≡ o - c .offset = part-length (c .offset) (o - c .offset) s (omega (arith, a .behind, a .inside)) in
-      omega (arith, line-at s c o, newlines-few x, h, a .behind, a .line)
-
-  -- and where the cursor's line is true, so is that
-  pub line-true : c .line ≡ newlines (take (c .offset) s) → moveTo s c o .line ≡ newlines (take o s)
-  line-true h =
-      let e : c .offset + (o - c .offset) ≡ o = omega (arith, a .behind) in
-      line-at s c o ∙ ap (λ (n : ℕ). n + newlines (part (c .offset) o s)) h
-      ∙ sym (newlines-append (take (c .offset) s) (part (c .offset) o s))
-      ∙ ap newlines (sym (take-add (c .offset) (o - c .offset) s))
-      ∙ ap (λ (n : ℕ). newlines (take n s)) e
-
--- as the code counts them
-pub line-one : (l x : ℕ) → lineBehind l x ≤ l + 1
-unfolding lineBehind
-line-one l x = at-most (eqb x newline) l
-
-module _ (s : List ℕ) (o at : ℕ) where
-  pub lines-end : o ≤ at → newlines (part at o s) ≡ 0
-  unfolding newlines
-  lines-end h = let e : o - at ≡ 0 = omega arith in ap (λ (n : ℕ). newlines (take n (drop at s))) e
-
-  pub lines-on : (l : ℕ) → at < o → o < length s → lineBehind l (getD s at 0) + newlines (part (at + 1) o s) ≡ l + newlines (part at o s)
-  unfolding newlines lineBehind
-  lines-on l h i =
-      let e : o - at ≡ suc (o - (at + 1)) = omega arith in
-      let q : part at o s ≡ getD s at 0 ∷ part (at + 1) o s =
-      ap (λ (n : ℕ). take n (drop at s)) e ∙ ap (take (suc (o - (at + 1)))) (drop-one s at (omega arith)) in
-      by-byte (eqb (getD s at 0) newline) l (newlines (part (at + 1) o s)) ∙ ap (λ (x : List ℕ). l + newlines x) (sym q)
-
--- the form in which a clause is packed has a line that two bytes hold
-pub form-fits : (v : Version) (s : List ℕ) (c : Cursor) (o : ℕ) → Ahead s c o → line (formAt v s c o) ≤ most
-unfolding formAt line
-form-fits Version.One s c o a = omega arith
-form-fits Version.Two s c o a = omega (arith, line-before s c o a, a .inside, a .short)
-
-pub clause-line : (s : List ℕ) (c : Cursor) (ts : List Token) (e : Cursor) (t : Tree) → ClauseAt s c ts e t → c .line ≡ newlines (take (c .offset) s)
-    → clauseForm Version.Two s c ≡ Two (newlines (take (firstOffset s c) s) + 1)
-unfolding formAt
-clause-line s c ts e t o h = ap (λ (n : ℕ). Two (n + 1)) (line-true s c (firstOffset s c) (clause-ahead s c ts e t o) h)

@@ -12,6 +12,7 @@ pub mod Outcomes
 pub mod Moving
 pub mod Arities
 pub mod Clauses
+pub mod Lines
 pub mod ClauseOutcomes
 pub mod Specimens
 pub mod Theorems

@@ -37,6 +37,7 @@ use Rattle.pack.proofs.Trips as T
 use Rattle.pack.proofs.Outcomes.{one-pack, some-pack, one-unpack, some-unpack, one-either, some-either, one-move, some-move}
 use Rattle.pack.proofs.Moving as M
 use Rattle.pack.proofs.Clauses as K
+use Rattle.pack.proofs.Lines as L
 use Rattle.pack.proofs.ClauseOutcomes as C
 use Rattle.pack.proofs.Specimens.{Packs, clauses, packs, Said, lines, lines-said, Unpacks, images, unpacks}
 
@@ -123,10 +124,14 @@ pub clause-sent : (v : Version) (s : List ℕ) (c : Cursor) (d : List ℕ) (r : 
     → C.ClauseSent (clauseForm v s c) s c e (take n x)
 clause-sent = C.clause-sent
 
--- (that is one more than the newlines before its first token, where the cursor's own line is the count of those before the cursor) ..
-pub clause-line : (s : List ℕ) (c : Cursor) (ts : List Token) (e : Cursor) (t : Tree) → ClauseAt s c ts e t → c .line ≡ K.newlines (take (c .offset) s)
-    → clauseForm Version.Two s c ≡ Two (K.newlines (take (firstOffset s c) s) + 1)
-clause-line = K.clause-line
+-- (which is one more than the newlines before its first token, where the cursor's line is the count of those before the cursor, as at the text's start; and it is so
+-- of the cursor behind the clause again) ..
+module _ (s : List ℕ) (c : Cursor) (ts : List Token) (e : Cursor) (t : Tree) (o : ClauseAt s c ts e t) (true-line : c .line ≡ L.newlines (take (c .offset) s)) where
+  pub clause-line : clauseForm Version.Two s c ≡ Two (L.newlines (take (firstOffset s c) s) + 1)
+  clause-line = L.clause-line s c ts e t o true-line
+
+  pub next-line : e .line ≡ L.newlines (take (e .offset) s)
+  next-line = L.next-line s c ts e t o true-line
 
 -- .. and unpacking it gives that form and the clause's kinds, arities and spellings.
 pub clause-received : (f : Form) (s : List ℕ) (c : Cursor) (e : Cursor) (i d : List ℕ) (r : UnpackAnswer) (x : List ℕ) → C.ClauseSent f s c e i → 4 * mostNodes ≤ length d

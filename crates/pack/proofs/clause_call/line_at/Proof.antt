@@ -9,7 +9,7 @@ use lib.ListN.{length, getD}
 use Rattle.lexer.specs.Cursor.{longest, part}
 use Rattle.lexer.specs.declared.cursor.Cursor.{Cursor}
 use Rattle.pack.specs.Walk.{lineBehind, Ahead, LineAt}
-use Rattle.pack.proofs.Clauses.{newlines, line-at, line-one, lines-end, lines-on}
+use Rattle.pack.proofs.Lines.{newlines, line-at, line-one, lines-end, lines-on}
 use Rattle.pack.proofs.clause_call.line_at.Statement.{statement}
 use Rattle.pack.proofs.clause_call.line_at.Tie as tie
 
@@ -36,7 +36,7 @@ module _ (s : List ℕ) (o : ℕ) where
       again r e =
           let k = line-one line (getD s at 0) in
           record {
-            same = ap (λ (l : ℕ). l + newlines (part (at + 1) o s)) e ∙ lines-on s o at line h (v .inside) ∙ v .same;
+            same = ap (λ (l : ℕ). l + newlines (part (at + 1) o s)) e ∙ lines-on s o at line h (omega (arith, v .inside)) ∙ v .same;
             before = omega (arith, e, k, v .before);
             place = omega arith;
             inside = v .inside;
@@ -44,7 +44,7 @@ module _ (s : List ℕ) (o : ℕ) where
           }
 
   ended : (c : Cursor) (line at : ℕ) → Inv s o (c .line) (c .offset) line at → o ≤ at → LineAt s c o line
-  ended c line at v h = record { same = omega (arith, v .same, lines-end s o at h, line-at s c o); before = omega (arith, v .before, v .place) }
+  ended c line at v h = record { same = omega (arith, v .same, lines-end s o at (omega (arith, v .place)), line-at s c o); before = omega (arith, v .before, v .place) }
 
 ruleset ways = (begin, ended, inside, small, again, needs)
 

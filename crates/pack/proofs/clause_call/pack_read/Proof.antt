@@ -22,7 +22,8 @@ use Rattle.pack.specs.declared.format.Form.{Form}
 use Rattle.pack.specs.declared.format.Version.{Version}
 use Rattle.pack.specs.declared.answers.PackAnswer.{PackAnswer}
 use Rattle.pack.specs.declared.answers.ClausePackAnswer.{ClausePackAnswer}
-use Rattle.pack.proofs.Clauses.{size, numbers-size, clause-size, lying-tree, spanned, nodes-tree, nodes-same, clause-ahead}
+use Rattle.pack.proofs.Clauses.{size, numbers-size, clause-size, lying-tree, spanned, nodes-tree, nodes-same}
+use Rattle.pack.proofs.Lines.{clause-ahead}
 use Rattle.pack.proofs.clause_call.pack_read.Statement.{statement}
 use Rattle.pack.proofs.clause_call.pack_read.Tie as tie
 
