@@ -1,12 +1,13 @@
 -- Tokens one behind the other have the spans that the listing asks for. Assumes nothing.
 use Prim.Native.Nat.{ℕ, zero, suc, _<_, _≤_}
 use mathlib.Core.Path.{_≡_, sym, ap, _∙_}
-use mathlib.Core.List.{List, [], _∷_, map}
+use mathlib.Core.List.{List, [], _∷_, _++_, map}
 use native.Mathlib.Omega.{arith}
 use lib.ListN.{length, getD, take}
 use lib.Seq.{getD-take}
 use Rattle.lexer.specs.Cursor.{longest}
 use Rattle.reader.specs.Token.{Token}
+use Rattle.reader.specs.Fault.{Chain, none, more}
 use Rattle.reader.specs.Listing.{Source}
 
 abbrev pub starts-of : List Token → List ℕ
@@ -15,15 +16,15 @@ starts-of ts = map (λ (t : Token). t .start) ts
 abbrev pub ends-of : List Token → List ℕ
 ends-of ts = map (λ (t : Token). t .end) ts
 
--- tokens from one offset on, none empty, each behind the one before, all within n bytes
-pub data Chain (n : ℕ) : ℕ → List Token → Type 0 where
-  none : {from : ℕ} → from ≤ n → Chain n from []
-  more : {from : ℕ} {t : Token} {ts : List Token} → from ≤ t .start → t .start < t .end → Chain n (t .end) ts → Chain n from (t ∷ ts)
-
 module _ (n : ℕ) where
   pub begins : {from : ℕ} {ts : List Token} → Chain n from ts → from ≤ n
   begins (none h) = h
   begins (more a b c) = let h = begins c in omega arith
+
+  -- where each of them starts
+  pub within : {from : ℕ} (us : List Token) (t : Token) (vs : List Token) → Chain n from (us ++ (t ∷ vs)) → (from ≤ t .start) × (t .start < n)
+  within [] t vs (more a b c) = let h = begins c in (a, omega arith)
+  within (u ∷ us) t vs (more a b c) = let h = within us t vs c in (omega (arith, h .0), h .1)
 
   ends-later : {from : ℕ} (ts : List Token) → Chain n from ts → (j : ℕ) → j < length ts → from < getD (ends-of ts) j 0
   ends-later [] (none h) j l = absurd (omega arith)

@@ -2,6 +2,8 @@ pub mod Basics
 pub mod Complete
 pub mod Sound
 pub mod Unique
+pub mod Viable
+pub mod Faults
 pub mod Table
 pub mod Size
 pub mod Answer

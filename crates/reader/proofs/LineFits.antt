@@ -2,7 +2,7 @@
 use Prim.Native.Nat.{ℕ, zero, suc, _+_, _*_, _<_, _≤_}
 use mathlib.Core.Path.{_≡_, refl, sym, ap, subst, _∙_}
 use mathlib.Core.Bool.{Bool, true, false, cond}
-use mathlib.Core.List.{List, [], _∷_, _++_}
+use mathlib.Core.List.{List, [], _∷_}
 use native.Mathlib.Omega.{arith}
 use lib.ListN.{length, length-append}
 use Rattle.lexer.specs.Chars.{openParen}
@@ -21,8 +21,9 @@ use Rattle.reader.specs.Listing.{shapeOf, lastSeparator, front, back, pr
 use Rattle.reader.specs.LineCall.{longestLine, LineOutcome, invalid, token, noMark, noReading, noRoom, read}
 use Rattle.reader.specs.declared.line_call.LineAnswer.{LineAnswer}
 use Rattle.reader.specs.declared.line_call.LineAnswer.the-variants.{Read, Refused}
-use Rattle.reader.proofs.Chains as chains
-use Rattle.reader.proofs.Chains.{Chain}
+use Rattle.reader.specs.Fault as chains
+use Rattle.reader.specs.Fault.{Chain}
+use Rattle.reader.proofs.Chains.{begins}
 use Rattle.reader.proofs.Indexes.{Run, end, next, here, on, below, numbered, apart, term-past, args-past, place-past}
 use Rattle.reader.proofs.LineOutcomes.{one-line}
 use Rattle.reader.proofs.Puts.{part-length}
@@ -183,7 +184,7 @@ before-on from t ts (suc i) = refl
 lies : (n from : ℕ) (ts : List Token) → Chain n from ts → (i : ℕ) → i < length ts → Lies n (before from ts i) (tokenAt ts i)
 unfolding before
 lies n from [] c i l = absurd (omega arith)
-lies n from (t ∷ ts) (chains.more a b c) zero l = record { behind = a; ahead = b; inside = chains.begins n c }
+lies n from (t ∷ ts) (chains.more a b c) zero l = record { behind = a; ahead = b; inside = begins n c }
 lies n from (t ∷ ts) (chains.more a b c) (suc i) l = subst (λ (m : ℕ). Lies n m (tokenAt ts i)) (before-on from t ts i) (lies n (t .end) ts c i (omega arith))
 
 spelled-short : (s : List ℕ) (ts : List Token) (i j : ℕ) → tokenAt ts i .start < tokenAt ts j .end → tokenAt ts j .end ≤ length s
@@ -251,6 +252,6 @@ module _ (s : List ℕ) (c : Cursor) (d : List ℕ) (l : longestLine ≤ length 
   refused-anyway r x (invalid v) h = carry _ h (invalid v)
   refused-anyway r x (token v g) h = carry _ h (token v g)
   refused-anyway r x (noMark v g) h = carry _ h (noMark v g)
-  refused-anyway r x (noReading v g q) h = carry _ h (noReading v g q)
+  refused-anyway r x (noReading v g q f) h = carry _ h (noReading v g q f)
   refused-anyway r x (noRoom {ts} {e} {t} v g q m) h = absurd (omega (arith, line-short s c v ts e g operators t q))
   refused-anyway r x (read v g q m) h = let z : _≡_ {A = ℕ} 0 1 = cc in absurd (omega arith)

@@ -1,6 +1,6 @@
 -- Of the line of a clause one outcome is permitted, and there is one. Assumes nothing.
 use Prim.Native.Nat.{ℕ}
-use mathlib.Core.Path.{_≡_, refl, ap}
+use mathlib.Core.Path.{_≡_, refl, ap, subst}
 use mathlib.Core.Bool.{Bool, true, false, cond}
 use mathlib.Core.Logic.{_⊎_, inl, inr}
 use mathlib.Core.List.{List}
@@ -19,11 +19,15 @@ use Rattle.reader.specs.Tree.{Tree}
 use Rattle.reader.specs.Grammar.{Reads}
 use Rattle.reader.specs.Clause.{Gathered, whole, stopped, tooMany, clauseTokens, firstOffset}
 use Rattle.reader.specs.Listing.{line}
+use Rattle.reader.specs.Machine.{start}
+use Rattle.reader.specs.Gather.{latestFrom}
 use Rattle.reader.specs.LineCall.{LineOutcome, invalid, token, noMark, noReading, noRoom, read}
 use Rattle.reader.specs.declared.line_call.LineAnswer.{LineAnswer}
 use Rattle.reader.specs.declared.line_call.LineAnswer.the-variants.{Read, Refused}
 use Rattle.reader.proofs.Answer.{one-tree, reads?}
 use Rattle.reader.proofs.Table.{fair, operators-admitted}
+use Rattle.reader.proofs.Viable.{one-fault}
+use Rattle.reader.proofs.Faults.{first-fault}
 
 -- an answer, and what is left in the slice
 data Left : Type 0 where
@@ -42,7 +46,7 @@ module _ (s : List ℕ) (c : Cursor) (d : List ℕ) where
 
   byReading : (ts : List Token) → Cursor → Reading ts → Left
   byReading ts e (inl p) = byLine e (line s ts (p .0))
-  byReading ts e (inr n) = leaves (Refused (fault NoReading (firstOffset s c)) c) d
+  byReading ts e (inr n) = leaves (Refused (fault NoReading (latestFrom start 0 0 ts)) c) d
 
   byTokens : Gathered → Left
   byTokens (stopped w) = leaves (Refused w c) d
@@ -65,7 +69,7 @@ module _ (s : List ℕ) (c : Cursor) (d : List ℕ) where
               → Allowed (cond b (leaves (Read (length (line s ts (p .0))) e) (sets d 0 (line s ts (p .0)))) (leaves (Refused (fault NoRoom (firstOffset s c)) c) d))
           go true l = read v g (p .1) (leb-true (length (line s ts (p .0))) (length d) l)
           go false l = noRoom v g (p .1) (leb-false (length (line s ts (p .0))) (length d) l)
-      allowed-reading (inr n) = noReading v g n
+      allowed-reading (inr n) = let f = first-fault s c ts e g n in subst (λ (k : ℕ). LineOutcome s c d (Refused (fault NoReading k) c) d) (f .2) (noReading v g n (f .1))
 
       -- a reading is the reading
       by-reading : (t : Tree) → Reads operators ts t → (x : Reading ts) → byReading ts e x ≡ byLine e (line s ts t)
@@ -73,7 +77,7 @@ module _ (s : List ℕ) (c : Cursor) (d : List ℕ) where
       by-reading t r (inl p) = ap (λ (u : Tree). byLine e (line s ts u)) (one-tree operators (fair operators operators-admitted) (p .1) r)
       by-reading t r (inr n) = absurd (n t r)
 
-      by-none : ((t : Tree) → Reads operators ts t → ⊥) → (x : Reading ts) → byReading ts e x ≡ leaves (Refused (fault NoReading (firstOffset s c)) c) d
+      by-none : ((t : Tree) → Reads operators ts t → ⊥) → (x : Reading ts) → byReading ts e x ≡ leaves (Refused (fault NoReading (latestFrom start 0 0 ts)) c) d
       unfolding byReading
       by-none n (inl p) = absurd (n (p .0) (p .1))
       by-none n (inr m) = refl
@@ -108,7 +112,10 @@ module _ (s : List ℕ) (c : Cursor) (d : List ℕ) where
   only (invalid v) = cc
   only (token v g) = cc
   only (noMark v g) = cc
-  only (noReading {ts} {e} v g n) = cc (by-whole v ts e g, by-none v ts e g n (reading ts))
+  only (noReading {ts} {e} {f} v g n h) =
+      let k = first-fault s c ts e g n in
+      let w : f ≡ k .0 = one-fault operators ts f (k .0) h (k .1) in
+      cc (by-whole v ts e g, by-none v ts e g n (reading ts), k .2)
   only (noRoom {ts} {e} {t} v g r l) = cc (by-whole v ts e g, by-reading v ts e g t r (reading ts), lt-leb (length (line s ts t)) (length d) l)
   only (read {ts} {e} {t} v g r l) = cc (by-whole v ts e g, by-reading v ts e g t r (reading ts), le-leb (length (line s ts t)) (length d) l)
 

@@ -10,7 +10,7 @@ use Rattle.reader.specs.Tree.{call, list, listTail, curly, emptyList, em
 use Rattle.reader.specs.Grammar.{Reads}
 use Rattle.reader.specs.Listing.{shapeOf, spelled, back, lastSeparator, separator, front, printed, joined, others, line}
 use Rattle.reader.specs.Machine.{State}
-use Rattle.reader.proofs.Specimens.{behind, Of, All, all, Test, found, test, tested, machine, accepting, reads, computes, one, two, x, minus}
+use Rattle.reader.proofs.Specimens.{behind, Of, All, all, Test, found, test, tested, machine, accepting, accepted, computes, one, two, x, minus}
 
 -- A clause's text, its tree, its line.
 pub data Row : Type 0 where
@@ -52,7 +52,7 @@ unfolding got due
 each (row text u l) e =
     let p = tested (seen text u) text (sees (accepting u) (spell l)) e in
     let h = p .2 in
-    (p .0, p .1, (reads (p .0) u cc, cc))
+    (p .0, p .1, (accepted (p .0) u cc, cc))
 
 pub lines : All Holds table
 unfolding computes got due shapeOf isComma spelled back lastSeparator separator front printed joined others

@@ -1,11 +1,9 @@
 -- What the clause call may answer is what the machine says: one outcome, permitted by the grammar. Assumes nothing.
-use Prim.Native.Nat.{ℕ, _*_, _<_, _≤_}
+use Prim.Native.Nat.{ℕ, _*_}
 use mathlib.Core.Path.{_≡_, refl, sym, _∙_, ap, subst}
 use mathlib.Core.Bool.{Bool, true, false, cond}
-use mathlib.Core.Logic.{⊎-elim}
 use mathlib.Core.Option.{Option, none, some}
 use mathlib.Core.List.{List, []}
-use native.Mathlib.Decide.{decLe}
 use native.Mathlib.Omega.{arith}
 use borrow.Author.Tests.{le-leb, lt-leb, leb-true, leb-false}
 use lib.Dec.{leb}
@@ -15,14 +13,14 @@ use Rattle.lexer.specs.Cursor.{valid}
 use Rattle.lexer.specs.Refusal.{fault}
 use Rattle.lexer.specs.Token.{notValid}
 use Rattle.lexer.specs.declared.cursor.Cursor.{Cursor}
-use Rattle.lexer.specs.declared.refusal.Refusal.the-variants.{NoRoom, TooManyTokens, NoReading}
+use Rattle.lexer.specs.declared.refusal.Refusal.the-variants.{NoRoom, NoReading}
 use Rattle.reader.specs.Token.{Token, terminals}
 use Rattle.reader.specs.Ops.{operators}
 use Rattle.reader.specs.Tree.{Tree, packed, numbers}
 use Rattle.reader.specs.Grammar.{Reads}
-use Rattle.reader.specs.Machine.{Out, State, want, pend, begun, have, dead, done, run, start, laid}
+use Rattle.reader.specs.Machine.{Out, State, want, pend, begun, have, dead, done, laid}
 use Rattle.reader.specs.Clause.{Gathered, whole, stopped, tooMany, clauseTokens, firstOffset, Outcome, invalid, token, noMark, noReading, noRoom, read}
-use Rattle.reader.specs.Gather.{Left, leaves, nodesOf, machineAfter, byNodes, byTokens, clauseBy}
+use Rattle.reader.specs.Gather.{Left, leaves, nodesOf, machineAfter, marksOf, byNodes, byTokens, clauseBy}
 use Rattle.reader.specs.declared.clause.ClauseAnswer.{ClauseAnswer}
 use Rattle.reader.specs.declared.clause.ClauseAnswer.the-variants.{Read, Refused}
 use Rattle.reader.proofs.Answer.{laid-length}
@@ -31,6 +29,8 @@ use Rattle.reader.proofs.Complete.{complete}
 use Rattle.reader.proofs.Sound.{sound}
 use Rattle.reader.proofs.Unique.{laid-tree}
 use Rattle.reader.proofs.Table.{fair, operators-admitted}
+use Rattle.reader.proofs.Viable.{one-fault}
+use Rattle.reader.proofs.Faults.{first-fault}
 
 -- ---- the machine and the grammar
 module _ (ts : List Token) where
@@ -85,9 +85,12 @@ module _ (s : List ℕ) (c : Cursor) (d : List ℕ) where
           let h = leb-false (2 * length (push packed t [])) (length d) l in
           noRoom v g r (omega arith)
 
-      nodes : (o : Option Out) → nodesOf (machineAfter ts) ≡ o → Allowed (byNodes (firstOffset s c) c d e o)
+      nodes : (o : Option Out) → nodesOf (machineAfter ts) ≡ o → Allowed (byNodes (marksOf s c ts) c d e o)
       unfolding byNodes
-      nodes none q = noReading v g (λ t r. let p = reading-nodes ts r in let z : _≡_ {A = ℕ} 0 1 = cc in omega arith)
+      nodes none q =
+          let n : (t : Tree) → Reads operators ts t → ⊥ = λ t r. let p = reading-nodes ts r in let z : _≡_ {A = ℕ} 0 1 = cc in omega arith in
+          let f = first-fault s c ts e g n in
+          subst (λ (k : ℕ). Outcome s c d (Refused (fault NoReading k) c) d) (f .2) (noReading v g n (f .1))
       nodes (some out) q =
           let r = nodes-reading ts out q in
           rw (sym (r .2)) (fits (r .0) (r .1) (leb (2 * length (push packed (r .0) [])) (length d)) refl)
@@ -123,7 +126,11 @@ module _ (s : List ℕ) (c : Cursor) (d : List ℕ) where
   only (invalid v) = cc
   only (token v g) = cc
   only (noMark v g) = cc
-  only (noReading {ts} v g n) = let q = none-left ts n in cc
+  only (noReading {ts} {e} {f} v g n h) =
+      let q = none-left ts n in
+      let k = first-fault s c ts e g n in
+      let w : f ≡ k .0 = one-fault operators ts f (k .0) h (k .1) in
+      cc (k .2)
   only (noRoom {ts} {t = t} v g r l) =
       let q = reading-nodes ts r in
       let m = numbers-count ts t in

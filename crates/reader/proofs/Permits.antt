@@ -1,4 +1,5 @@
--- What the outcomes come to: of a clause that has a reading no answer but the tree, 9 or 8; and an answer that was read stands further on. Assumes nothing.
+-- What the outcomes come to: of a clause that has a reading no answer but the tree, 9 or 8, and of one that has none 11 at the first token that cannot stand;
+-- and an answer that was read stands further on. Assumes nothing.
 use Prim.Native.Nat.{ℕ, _*_, _<_, _≤_}
 use mathlib.Core.Path.{_≡_, _∙_, ap, subst}
 use mathlib.Core.Bool.{true}
@@ -7,6 +8,7 @@ use native.Mathlib.Omega.{arith}
 use lib.ListN.{length}
 use lib.Seq.{sets}
 use Rattle.lexer.specs.Cursor.{valid}
+use Rattle.lexer.specs.Refusal.{fault}
 use Rattle.lexer.specs.declared.cursor.Cursor.{Cursor}
 use Rattle.lexer.specs.declared.refusal.Fault.{Fault}
 use Rattle.lexer.specs.declared.refusal.Refusal.the-variants.{NoReading}
@@ -14,6 +16,7 @@ use Rattle.reader.specs.Token.{Token}
 use Rattle.reader.specs.Ops.{operators}
 use Rattle.reader.specs.Tree.{Tree, numbers}
 use Rattle.reader.specs.Grammar.{Reads}
+use Rattle.reader.specs.Fault.{FirstFault}
 use Rattle.reader.specs.Clause.{mostTokens, whole, clauseTokens, Outcome, invalid, token, noMark, noReading, noRoom, read}
 use Rattle.reader.specs.LineCall as Line
 use Rattle.reader.specs.LineCall.{LineOutcome}
@@ -21,6 +24,8 @@ use Rattle.reader.specs.declared.line_call.LineAnswer.{LineAnswer}
 use Rattle.reader.specs.declared.clause.ClauseAnswer.{ClauseAnswer}
 use Rattle.reader.specs.declared.clause.ClauseAnswer.the-variants.{Read, Refused}
 use Rattle.reader.proofs.Answer.{one-tree}
+use Rattle.reader.proofs.Faults.{first-fault}
+use Rattle.reader.proofs.Outcomes.{one-outcome}
 use Rattle.reader.proofs.Spans.{gathered-few}
 use Rattle.reader.proofs.Table.{fair, operators-admitted}
 
@@ -39,7 +44,7 @@ module _ (s : List ℕ) (c : Cursor) (d : List ℕ) where
     never-no-reading (invalid v) h = let z : _≡_ {A = ℕ} 0 1 = cc in omega arith
     never-no-reading (token v g) h = let z : _≡_ {A = ℕ} 0 1 = cc in omega arith
     never-no-reading (noMark v g) h = let z : _≡_ {A = ℕ} 0 1 = cc in omega arith
-    never-no-reading (noReading v g n) h = n t (its-reading g)
+    never-no-reading (noReading v g n f) h = n t (its-reading g)
     never-no-reading (noRoom v g r l) h = let z : _≡_ {A = ℕ} 0 1 = cc in omega arith
 
     -- what is read is the tree
@@ -51,9 +56,17 @@ module _ (s : List ℕ) (c : Cursor) (d : List ℕ) where
     room-reads p h (invalid v) = let z : _≡_ {A = ℕ} 0 1 = cc in absurd (omega arith)
     room-reads p h (token v g) = let z : _≡_ {A = ℕ} 0 1 = cc in absurd (omega arith)
     room-reads p h (noMark v g) = let z : _≡_ {A = ℕ} 0 1 = cc in absurd (omega arith)
-    room-reads p h (noReading v g n) = absurd (n t (its-reading g))
+    room-reads p h (noReading v g n f) = absurd (n t (its-reading g))
     room-reads p h (noRoom {t = u} v g r l) = let q = ap (λ (z : Tree). length (numbers z)) (its-tree u g r) in absurd (omega arith)
     room-reads p h (read {n = n} v g r m l) = (n, cc)
+
+  -- ---- a clause that has none
+  module _ (ts : List Token) (e : Cursor) (v : valid (length s) c ≡ true) (gathered : clauseTokens s c ≡ whole ts e) (none-reads : (t : Tree) → Reads operators ts t → ⊥) where
+    pub always-no-reading : {r : ClauseAnswer} {x : List ℕ} → Outcome s c d r x → (t : Token) × FirstFault operators ts t × (r ≡ Refused (fault NoReading (t .start)) c) × (x ≡ d)
+    always-no-reading o =
+        let f = first-fault s c ts e gathered none-reads in
+        let p = one-outcome s c d o (noReading v gathered none-reads (f .1)) in
+        (f .0, f .1, p .0, p .1)
 
   -- ---- the cursor behind a clause that was read
 

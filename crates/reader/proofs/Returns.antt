@@ -79,7 +79,7 @@ module _ (s : List ℕ) where
       carried f g (invalid v) = invalid (valid-same v)
       carried f g (token v e) = token (valid-same v) (g ∙ e)
       carried f g (noMark v e) = rw (sym f) (noMark (valid-same v) (g ∙ e))
-      carried f g (noReading v e n) = rw (sym f) (noReading (valid-same v) (g ∙ e) n)
+      carried f g (noReading v e n h) = noReading (valid-same v) (g ∙ e) n h
       carried f g (noRoom v e r l) = rw (sym f) (noRoom (valid-same v) (g ∙ e) r l)
       carried f g (read v e r m l) = read (valid-same v) (g ∙ e) r m l
 

@@ -16,18 +16,18 @@ use Rattle.reader.specs.Machine.{nd, Out, op, Seq, inCall, inList, Brack
 use Rattle.reader.proofs.Basics.{lt?-true, glues-blocks, Fair, push, pushes, pushes-snoc, arity-snoc}
 
 -- the tokens that open a sequence of places, at ts, and where its first place begins
-data Opens : Seq → ℕ → List Tok → List Tok → Type 0 where
+pub data Opens : Seq → ℕ → List Tok → List Tok → Type 0 where
   opensCall : {i e j : ℕ} {x : List ℕ} {us : List Tok} → Opens inCall i (tok i (name x e) ∷ tok j (round true) ∷ us) us
   opensList : {i : ℕ} {us : List Tok} → Opens inList i (tok i square ∷ us) us
 
-data Opener : Shape → Terminal → Type 0 where
+pub data Opener : Shape → Terminal → Type 0 where
   isSquare : Opener squares square
   isBrace : Opener braces brace
 
 module _ (word : NodeKind → ℕ → ℕ) (T : Table) (source : List Tok) where
   mutual
     -- Read so far from the tokens `source`: inside br, which stands on fs, a place begins at ts, and out is written.
-    data Inside : Bracket → Frames → List Tok → Out → Type 0 where
+    pub data Inside : Bracket → Frames → List Tok → Out → Type 0 where
       atTop : Inside top [] source []
       ofRound : {i : ℕ} {ct : Bool} {fs : Frames} {us : List Tok} {out : Out} → Held fs (tok i (round ct) ∷ us) out → Inside inRound fs us out
       ofCurly : {i : ℕ} {fs : Frames} {us : List Tok} {out : Out} → Held fs (tok i brace ∷ us) out → Inside (inCurly i) fs us out
@@ -40,7 +40,7 @@ module _ (word : NodeKind → ℕ → ℕ) (T : Table) (source : List Tok) where
           Inside (inTail i d) fs us output
 
     -- The same for an operand behind the frames fs.
-    data Held : Frames → List Tok → Out → Type 0 where
+    pub data Held : Frames → List Tok → Out → Type 0 where
       base : {br : Bracket} {fs : Frames} {ts : List Tok} {out : Out} → Inside br fs ts out → Held (opened br ∷ fs) ts out
       afterPrefix : {i e j p b : ℕ} {x : List ℕ} {r : Pre} {k : Terminal} {fs : Frames} {us : List Tok} {out : Out} →
           Held fs (tok i (name x e) ∷ tok j k ∷ us) out → prefixOf T x ≡ some r → prePrio r ≡ p → preBound r ≡ b → p < bound fs →
@@ -50,7 +50,7 @@ module _ (word : NodeKind → ℕ → ℕ) (T : Table) (source : List Tok) where
           p < bound fs → push word t out ≡ output → Held (waiting (op i true p b) ∷ fs) us output
 
   -- What is known of a state when ts is left to read.
-  data Inv : State → List Tok → Type 0 where
+  pub data Inv : State → List Tok → Type 0 where
     iWant : {fs : Frames} {ts : List Tok} {out : Out} → Held fs ts out → Inv (want fs out) ts
     iPend : {i e : ℕ} {x : List ℕ} {m : Bool} {r : Option Pre} {s : Option Inf} {fs : Frames} {ts : List Tok} {out : Out} →
         Held fs (tok i (name x e) ∷ ts) out → isMinus x ≡ m → prefixOf T x ≡ r → infixOf T x ≡ s → Inv (pend i e m r s fs out) ts
@@ -406,7 +406,7 @@ module _ (word : NodeKind → ℕ → ℕ) (T : Table) (source : List Tok) where
   stepped fair iDead = iDead
   stepped fair (iDone p e) = iDead
 
-  ran : (st : State) (ts : List Tok) → Fair T → Inv st ts → Inv (run word T st ts) []
+  pub ran : (st : State) (ts : List Tok) → Fair T → Inv st ts → Inv (run word T st ts) []
   unfolding run
   ran st [] fair v = v
   ran st (tok i k ∷ ts) fair v = ran (step word st i (see T k)) ts fair (stepped fair v)

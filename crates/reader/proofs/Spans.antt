@@ -1,22 +1,22 @@
 -- The tokens of a clause, one behind the other: how many, their spans, and the spans in two slices. Assumes nothing.
-use Prim.Native.Nat.{ℕ, zero, suc, _+_, _-_, _<_, _≤_}
+use Prim.Native.Nat.{ℕ, zero, suc, _+_, _<_, _≤_}
 use mathlib.Core.Path.{_≡_, refl, sym, _∙_, ap, subst}
 use mathlib.Core.Bool.{Bool, true, false, cond}
-use mathlib.Core.List.{List, [], _∷_, _++_, map}
+use mathlib.Core.List.{List, [], _∷_, _++_}
 use native.Mathlib.Omega.{arith}
 use lib.Dec.{eqb}
-use lib.ListN.{length, getD, take, length-append}
+use lib.ListN.{length, getD}
 use Rattle.lexer.specs.Chars.{comma}
-use Rattle.lexer.specs.Cursor.{valid, moveTo, Valid}
-use Rattle.lexer.specs.Token.{Text, Lexeme, lexeme, refused, isComma, readLexeme, answered, nextToken}
+use Rattle.lexer.specs.Cursor.{valid, moveTo}
+use Rattle.lexer.specs.Token.{Lexeme, lexeme, refused, isComma, readLexeme, answered, nextToken}
 use Rattle.lexer.specs.declared.cursor.Cursor.{Cursor}
 use Rattle.lexer.specs.declared.token.Token as lexer
 use Rattle.lexer.specs.declared.token.Answer.{Answer}
 use Rattle.lexer.proofs.Theorems.{token-promises, comma-starts}
-use Rattle.reader.specs.Token.{Token, Tok, terminals}
+use Rattle.reader.specs.Token.{Token, terminals}
 use Rattle.reader.specs.Clause.{tokenIn, isEnd, Gathered, whole, stopped, tooMany, with, onward, gather}
 use Rattle.reader.specs.Listing.{tokenAt}
-use Rattle.reader.proofs.Chains.{Chain, none, more}
+use Rattle.reader.specs.Fault.{Chain, none, more}
 use Rattle.reader.proofs.Sights.{Known, known}
 use Rattle.reader.proofs.Turns.{answered-there}
 

@@ -5,7 +5,7 @@ use mathlib.Core.Path.{_≡_}
 use mathlib.Core.Bool.{true}
 use mathlib.Core.Logic.{_⊎_, _↔_}
 use mathlib.Core.Option.{some}
-use mathlib.Core.List.{List}
+use mathlib.Core.List.{List, [], _∷_, _++_}
 use lib.ListN.{length, getD}
 use lib.Seq.{sets}
 use Rattle.lexer.specs.Cursor.{part, valid}
@@ -14,11 +14,12 @@ use Rattle.lexer.specs.declared.cursor.Cursor.{Cursor}
 use Rattle.lexer.specs.declared.refusal.Fault.{Fault}
 use Rattle.lexer.specs.declared.refusal.Refusal.the-variants.{BadQuoted, NoReading}
 use Rattle.lexer.proofs.Theorems.{blanked}
-use Rattle.reader.specs.Token.{Token, Tok, sameText}
+use Rattle.reader.specs.Token.{End, Token, Tok, sameText}
 use Rattle.reader.specs.Ops.{Table, operators}
 use Rattle.reader.specs.Admitted.{admits}
 use Rattle.reader.specs.Tree.{NodeKind, kindNumber, Tree, packed, numbers}
 use Rattle.reader.specs.Grammar.{Clause, Reads}
+use Rattle.reader.specs.Fault.{Chain, FirstFault}
 use Rattle.reader.specs.Machine.{Out, done, run, start, answer, Numbered}
 use Rattle.reader.specs.Clause.{mostTokens, whole, stopped, clauseTokens, firstOffset, Outcome}
 use Rattle.reader.specs.Listing.{Within, kindOf, tokenAt, line, Source}
@@ -29,15 +30,16 @@ use Rattle.reader.specs.declared.line_call.LineAnswer.the-variants.{Read
 use Rattle.reader.proofs.LineFits.{line-short, read-whole, refused-anyway}
 use Rattle.reader.proofs.LineOutcomes.{some-line, one-line}
 use Rattle.reader.proofs.Outcomes.{some-outcome, one-outcome}
-use Rattle.reader.proofs.Permits.{never-no-reading, read-tree, room-reads, behind-clause, behind-line, fits-line}
+use Rattle.reader.proofs.Permits.{never-no-reading, always-no-reading, read-tree, room-reads, behind-clause, behind-line, fits-line}
 use Rattle.reader.proofs.Returns.{tokens-alike, outcome-alike}
 use Rattle.reader.proofs.Indexes.{reads-within}
 use Rattle.reader.proofs.Terms.{packed-both, packed-kind}
-use Rattle.reader.proofs.TreeRoom.{few-numbers, first-behind, first-inside, tree-within, first-span, spans-part, spans-source, read-front, refused-always, refused-back}
+use Rattle.reader.proofs.TreeRoom.{few-numbers, first-behind, first-inside, chained, fault-within, tree-within, first-span, spans-part, spans-source, read-front, refused-always, refused-back}
 use Rattle.reader.proofs.Table.{same-exactly, fair, operators-admitted}
 use Rattle.reader.proofs.Answer.{answer-complete, answer-sound, one-tree, reads?, tree-small}
 use Rattle.reader.proofs.Specimens.{Holds, All, table, specimens}
 use Rattle.reader.proofs.LineSpecimens as Lines
+use Rattle.reader.proofs.Viable.{a-fault, one-fault, no-reading, other-rest}
 use Rattle.reader.proofs.Size.{framesIn, nodesIn, words-fit, places-fit, nodes-fit}
 
 -- ---- the grammar
@@ -53,6 +55,22 @@ module _ (T : Table) (admitted : admits T ≡ true) where
   -- Size: a tree has two numbers a node and fewer nodes than its clause has tokens, so of 1,024 tokens at most 1,023.
   pub size-tree : {ts : List Tok} {t : Tree} → Clause T ts t → length (numbers t) + 2 ≤ 2 * length ts
   size-tree = tree-small T (fair T admitted)
+
+  -- The first token that cannot stand (02, request 12), from the grammar alone: tokens with an end mark that have no reading have one,
+  pub fault-there : (ts : List Token) (m : Token) → m .kind ≡ End → ((u : Tree) → Reads T (ts ++ (m ∷ [])) u → ⊥) → (t : Token) × FirstFault T (ts ++ (m ∷ [])) t
+  fault-there = a-fault T (fair T admitted)
+
+  -- none have two,
+  pub fault-coincides : {ts : List Token} {t u : Token} → FirstFault T ts t → FirstFault T ts u → t ≡ u
+  fault-coincides {ts} {t} {u} = one-fault T ts t u
+
+  -- tokens that have one have no reading,
+  pub fault-refuses : {ts : List Token} {t : Token} {u : Tree} → FirstFault T ts t → Reads T ts u → ⊥
+  fault-refuses {ts} {t} {u} f = no-reading T ts t f u
+
+  -- and it is the same whatever stands behind it.
+  pub fault-stays : {ts : List Token} {t : Token} (f : FirstFault T ts t) (after : List Token) → FirstFault T (f .before ++ (t ∷ after)) t
+  fault-stays {ts} {t} = other-rest T ts t
 
 -- Arity, for any table: in a reading of at most 1,024 tokens every node stands at one of them and has an arity below 1,024.
 pub arity-tree : (T : Table) (ts : List Token) (t : Tree) → length ts ≤ mostTokens → Reads T ts t → Within (length ts) t
@@ -96,6 +114,11 @@ module _ (s : List ℕ) (c : Cursor) (d : List ℕ) where
     -- and from a valid cursor, with room for its numbers, it is read.
     pub room-suffices : valid (length s) c ≡ true → length (numbers t) ≤ length d → {r : ClauseAnswer} {x : List ℕ} → Outcome s c d r x → (n : ℕ) × (r ≡ ClauseAnswer.Read n e)
     room-suffices = room-reads s c d ts e t gathered reading
+
+  -- From a valid cursor a clause that has no reading is refused with 11, at the first token that cannot stand.
+  pub always-11 : (ts : List Token) (e : Cursor) → valid (length s) c ≡ true → clauseTokens s c ≡ whole ts e → ((t : Tree) → Reads operators ts t → ⊥)
+      → {r : ClauseAnswer} {x : List ℕ} → Outcome s c d r x → (t : Token) × FirstFault operators ts t × (r ≡ ClauseAnswer.Refused (fault NoReading (t .start)) c) × (x ≡ d)
+  always-11 = always-no-reading s c d
 
   -- The next cursor, behind a clause that was read, is valid, further on, and within the text;
   pub next-cursor : {n : ℕ} {e : Cursor} {x : List ℕ} → Outcome s c d (ClauseAnswer.Read n e) x → (valid (length s) e ≡ true) × (c .offset < e .offset) × (e .offset ≤ length s)
@@ -146,6 +169,14 @@ module _ (s : List ℕ) (c : Cursor) where
     pub clause-numbers : (t : Tree) → Reads operators ts t → length (numbers t) + 2 ≤ 2 * mostTokens
     clause-numbers = few-numbers s c ts e v g
 
+    -- A clause's tokens stand in the text from the cursor on,
+    pub clause-chain : Chain (length s) (c .offset) ts
+    clause-chain = chained s c ts e v g
+
+    -- and among them the first that cannot stand, whatever the table: so there is a byte to point at.
+    pub fault-inside : (T : Table) (t : Token) → FirstFault T ts t → (c .offset ≤ t .start) × (t .start < length s)
+    fault-inside = fault-within s c ts e v g
+
     -- A clause's first token starts at the cursor or behind it, within the text.
     pub clause-starts : (c .offset ≤ firstOffset s c) × (firstOffset s c < length s)
     clause-starts = (first-behind s c ts e v g, first-inside s c ts e v g)
@@ -181,7 +212,7 @@ names-by-text = same-exactly
 pub table-admitted : admits operators ≡ true
 table-admitted = operators-admitted
 
--- Document 01's clause specimens, from their bytes, under its table.
+-- Document 01's clause specimens, from their bytes, under its table, with the first token that cannot stand where there is no reading.
 pub document-01 : All Holds table
 document-01 = specimens
 

@@ -12,7 +12,7 @@ use Rattle.lexer.specs.declared.cursor.Cursor.{Cursor}
 use Rattle.lexer.specs.declared.refusal.Fault.{Fault}
 use Rattle.lexer.proofs.Theorems.{is-valid}
 use Rattle.reader.specs.Token.{Token}
-use Rattle.reader.specs.Ops.{operators}
+use Rattle.reader.specs.Ops.{Table, operators}
 use Rattle.reader.specs.Tree.{Tree, numbers}
 use Rattle.reader.specs.Grammar.{Reads}
 use Rattle.reader.specs.Clause.{mostTokens, tokenIn, isEnd, Gathered, whole, stopped, tooMany, with, onward, gather, clauseTokens, startOf, firstOffset, Outcome, invalid, token, noMark, noReading, noRoom, read}
@@ -21,7 +21,8 @@ use Rattle.reader.specs.LineCall.{ReadTree, Spans}
 use Rattle.reader.specs.declared.clause.ClauseAnswer.{ClauseAnswer}
 use Rattle.reader.specs.declared.clause.ClauseAnswer.the-variants.{Read, Refused}
 use Rattle.reader.proofs.Answer.{tree-small}
-use Rattle.reader.proofs.Chains.{Chain, none, more, begins, front-at, source-of}
+use Rattle.reader.specs.Fault.{Chain, none, more, FirstFault}
+use Rattle.reader.proofs.Chains.{begins, within, front-at, source-of}
 use Rattle.reader.proofs.Indexes.{reads-within}
 use Rattle.reader.proofs.Puts.{sets-front}
 use Rattle.reader.proofs.Spans.{terminals-length, gathered-few}
@@ -81,6 +82,13 @@ module _ (s : List ℕ) (c : Cursor) where
     pub first-inside : firstOffset s c < length s
     first-inside = stands .inside
 
+    -- so does every token stand
+    pub chained : Chain (length s) (c .offset) ts
+    chained = gathered-few mostTokens s c ts e v g .chain
+
+    pub fault-within : (T : Table) (t : Token) → FirstFault T ts t → (c .offset ≤ t .start) × (t .start < length s)
+    fault-within T t f = within (length s) (f .before) t (f .after) (subst (Chain (length s) (c .offset)) (f .parts) chained)
+
     pub tree-within : (t : Tree) → Reads operators ts t → Within (length ts) t
     tree-within t q = reads-within operators ts t (gathered-few mostTokens s c ts e v g .few) q
 
@@ -110,7 +118,7 @@ module _ (s : List ℕ) (c : Cursor) where
     read-front a x nodes e (invalid v) h = let z : _≡_ {A = ℕ} 0 1 = cc in absurd (omega arith)
     read-front a x nodes e (token v g) h = let z : _≡_ {A = ℕ} 0 1 = cc in absurd (omega arith)
     read-front a x nodes e (noMark v g) h = let z : _≡_ {A = ℕ} 0 1 = cc in absurd (omega arith)
-    read-front a x nodes e (noReading v g q) h = let z : _≡_ {A = ℕ} 0 1 = cc in absurd (omega arith)
+    read-front a x nodes e (noReading v g q f) h = let z : _≡_ {A = ℕ} 0 1 = cc in absurd (omega arith)
     read-front a x nodes e (noRoom v g q l) h = let z : _≡_ {A = ℕ} 0 1 = cc in absurd (omega arith)
     read-front a x nodes e (read {ts} {e = f} {t = t} {n = k} v g q m l) h =
         let same : k ≡ nodes = cc in
@@ -138,7 +146,7 @@ module _ (s : List ℕ) (c : Cursor) where
       refused-always a x (invalid v) h = carry _ h (λ y. invalid v)
       refused-always a x (token v g) h = carry _ h (λ y. token v g)
       refused-always a x (noMark v g) h = carry _ h (λ y. noMark v g)
-      refused-always a x (noReading v g q) h = carry _ h (λ y. noReading v g q)
+      refused-always a x (noReading v g q f) h = carry _ h (λ y. noReading v g q f)
       refused-always a x (noRoom {ts} {e} {t} v g q m) h = absurd (omega (arith, few-numbers ts e v g t q))
       refused-always a x (read v g q m n) h = let z : _≡_ {A = ℕ} 0 1 = cc in absurd (omega arith)
 
@@ -146,5 +154,5 @@ module _ (s : List ℕ) (c : Cursor) where
     refused-back (invalid v) = refl
     refused-back (token v g) = refl
     refused-back (noMark v g) = refl
-    refused-back (noReading v g q) = refl
+    refused-back (noReading v g q f) = refl
     refused-back (noRoom v g q l) = refl

@@ -16,6 +16,7 @@ use Rattle.reader.specs.Token.{Kind, Name, Variable, String, Number, Ope
 use Rattle.reader.specs.Ops.{operators}
 use Rattle.reader.specs.Tree.{Tree, numbers}
 use Rattle.reader.specs.Grammar.{Reads}
+use Rattle.reader.specs.Fault.{FirstFault}
 use Rattle.reader.specs.declared.clause.ClauseAnswer.{ClauseAnswer}
 use Rattle.reader.specs.declared.clause.ClauseAnswer.the-variants.{Read, Refused}
 
@@ -91,9 +92,9 @@ pub data Outcome (s : List ℕ) (c : Cursor) (d : List ℕ) : ClauseAnswer → L
   token : {w : Fault} → valid (length s) c ≡ true → clauseTokens s c ≡ stopped w → Outcome s c d (Refused w c) d
   -- 10
   noMark : valid (length s) c ≡ true → clauseTokens s c ≡ tooMany → Outcome s c d (Refused (fault TooManyTokens (firstOffset s c)) c) d
-  -- 11: the grammar has no reading
-  noReading : {ts : List Token} {e : Cursor} → valid (length s) c ≡ true → clauseTokens s c ≡ whole ts e → ((t : Tree) → Reads operators ts t → ⊥) →
-      Outcome s c d (Refused (fault NoReading (firstOffset s c)) c) d
+  -- 11: the grammar has no reading, and f is the first token that cannot stand
+  noReading : {ts : List Token} {e : Cursor} {f : Token} → valid (length s) c ≡ true → clauseTokens s c ≡ whole ts e → ((t : Tree) → Reads operators ts t → ⊥) →
+      FirstFault operators ts f → Outcome s c d (Refused (fault NoReading (f .start)) c) d
   -- 9
   noRoom : {ts : List Token} {e : Cursor} {t : Tree} → valid (length s) c ≡ true → clauseTokens s c ≡ whole ts e → Reads operators ts t →
       length d < length (numbers t) → Outcome s c d (Refused (fault NoRoom (firstOffset s c)) c) d

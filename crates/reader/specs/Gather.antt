@@ -21,11 +21,13 @@ use Rattle.reader.specs.Token.{Name, End, Token, terminalAs, terminals}
 use Rattle.reader.specs.Ops.{operators}
 use Rattle.reader.specs.Tree.{packed}
 use Rattle.reader.specs.Machine as M
-use Rattle.reader.specs.Machine.{Out, State, want, pend, begun, have, dead, done, see, run, start, laid}
+use Rattle.reader.specs.Machine.{Out, State, want, pend, begun, have, dead, done, see, run, start, isDead, laid}
 use Rattle.reader.specs.Weight.{weight}
 use Rattle.reader.specs.Clause.{mostTokens, Gathered, whole, stopped, tooMany, tokenIn, isEnd, clauseTokens, firstOffset}
 use Rattle.reader.specs.Layout.{stateOf}
 use Rattle.reader.specs.declared.machine.Mode.{Mode}
+use Rattle.reader.specs.declared.machine.Mode.the-variants.{Want, Pend, Begun, Have, Dead, Done}
+use Rattle.reader.specs.declared.clause.Marks.{Marks}
 use Rattle.reader.specs.declared.clause.Machined.{Machined}
 use Rattle.reader.specs.declared.clause.ClauseAnswer.{ClauseAnswer}
 use Rattle.reader.specs.declared.clause.ClauseAnswer.the-variants.{Read, Refused}
@@ -71,25 +73,36 @@ pub record QuotedAt (s : List ℕ) (at : ℕ) : Type 0 where
 
 -- ---- the machine over the tokens of a clause
 
--- behind the end mark, with the offset of the clause's first token and the machine there; or a token's refusal; or behind so many tokens without a mark
+-- behind the end mark, with the clause's marks and the machine there; or a token's refusal; or behind so many tokens without a mark
 pub data Result : Type 0 where
-  finished : ℕ → State → Cursor → Result
+  finished : Marks → State → Cursor → Result
   halted : Fault → Result
-  paused : ℕ → State → Cursor → Result
+  paused : Marks → State → Cursor → Result
 
--- where the clause's first token starts: the token t, if it is the one of index 0, else f
-abbrev pub began : ℕ → ℕ → lexer.Token → ℕ
-began i f t = cond (eqb i 0) (t .start) f
+-- where the clause's first token starts, and where the last one starts that the machine took alive; by the token i, which starts at `at`
+unfoldable pub marksWith : ℕ → Bool → Marks → ℕ → Marks
+marksWith i gone f at = record { first = cond (eqb i 0) at (f .first); latest = cond gone (f .latest) at }
+
+abbrev pub marked : ℕ → State → Marks → lexer.Token → Marks
+marked i z f t = marksWith i (isDead z) f (t .start)
+
+abbrev pub deadMode : Mode → Bool
+deadMode (Want p) = false
+deadMode (Pend p q) = false
+deadMode (Begun p h i) = false
+deadMode (Have p) = false
+deadMode Dead = true
+deadMode (Done n) = false
 
 -- the machine at z takes the token i, which was read from c, and goes on where it is no end mark
-unfoldable pub runOn : List ℕ → Cursor → ℕ → ℕ → State → Lexeme → (ℕ → State → Cursor → Result) → Result
+unfoldable pub runOn : List ℕ → Cursor → ℕ → Marks → State → Lexeme → (Marks → State → Cursor → Result) → Result
 runOn s c i f z (refused w) next = halted w
 runOn s c i f z (lexeme t e x) next =
-    cond (isEnd (t .kind)) (finished (began i f t) (M.step packed z i (seen (tokenIn s t e x))) (moveTo s c e))
-    (next (began i f t) (M.step packed z i (seen (tokenIn s t e x))) (moveTo s c e))
+    cond (isEnd (t .kind)) (finished (marked i z f t) (M.step packed z i (seen (tokenIn s t e x))) (moveTo s c e))
+    (next (marked i z f t) (M.step packed z i (seen (tokenIn s t e x))) (moveTo s c e))
 
 -- n tokens at most, from the token i on
-unfoldable pub clauseRun : ℕ → ℕ → ℕ → State → List ℕ → Cursor → Result
+unfoldable pub clauseRun : ℕ → ℕ → Marks → State → List ℕ → Cursor → Result
 clauseRun zero i f z s c = paused f z c
 clauseRun (suc n) i f z s c = runOn s c i f z (readLexeme false s (c .offset)) (λ g y d. clauseRun n (i + 1) g y s d)
 
@@ -155,17 +168,28 @@ nodesOf (done out) = some out
 abbrev pub machineAfter : List Token → State
 machineAfter ts = run packed operators start (terminals 0 ts)
 
--- by the nodes of a machine behind the end mark, where f is the offset of the first token
-unfoldable pub byNodes : ℕ → Cursor → List ℕ → Cursor → Option Out → Left
-byNodes f c d e none = leaves (Refused (fault NoReading f) c) d
+-- where the machine's last token starts that it took alive, from the token i on: of a clause that is refused, the first token that cannot stand
+unfoldable pub latestFrom : State → ℕ → ℕ → List Token → ℕ
+latestFrom z i a [] = a
+latestFrom z i a (t ∷ ts) = latestFrom (M.step packed z i (seen t)) (i + 1) (cond (isDead z) a (t .start)) ts
+
+abbrev pub noMarks : Marks
+noMarks = record { first = 0; latest = 0 }
+
+abbrev pub marksOf : List ℕ → Cursor → List Token → Marks
+marksOf s c ts = record { first = firstOffset s c; latest = latestFrom start 0 0 ts }
+
+-- by the nodes of a machine behind the end mark
+unfoldable pub byNodes : Marks → Cursor → List ℕ → Cursor → Option Out → Left
+byNodes f c d e none = leaves (Refused (fault NoReading (f .latest)) c) d
 byNodes f c d e (some out) =
-    cond (leb (2 * length out) (length d)) (leaves (Read (length out) e) (sets d 0 (laid out))) (leaves (Refused (fault NoRoom f) c) d)
+    cond (leb (2 * length out) (length d)) (leaves (Read (length out) e) (sets d 0 (laid out))) (leaves (Refused (fault NoRoom (f .first)) c) d)
 
 module _ (s : List ℕ) (c : Cursor) (d : List ℕ) where
   unfoldable pub byTokens : Gathered → Left
   byTokens (stopped w) = leaves (Refused w c) d
   byTokens tooMany = leaves (Refused (fault TooManyTokens (firstOffset s c)) c) d
-  byTokens (whole ts e) = byNodes (firstOffset s c) c d e (nodesOf (machineAfter ts))
+  byTokens (whole ts e) = byNodes (marksOf s c ts) c d e (nodesOf (machineAfter ts))
 
   unfoldable pub clauseBy : Left
   clauseBy = cond (valid (length s) c) (byTokens (clauseTokens s c)) (leaves (Refused notValid c) d)
@@ -173,7 +197,7 @@ module _ (s : List ℕ) (c : Cursor) (d : List ℕ) where
 -- the same of the run over the tokens
 unfoldable pub byResult : Cursor → List ℕ → Result → Left
 byResult c d (halted w) = leaves (Refused w c) d
-byResult c d (paused f z e) = leaves (Refused (fault TooManyTokens f) c) d
+byResult c d (paused f z e) = leaves (Refused (fault TooManyTokens (f .first)) c) d
 byResult c d (finished f z e) = byNodes f c d e (nodesOf z)
 
 -- ---- what these functions ask

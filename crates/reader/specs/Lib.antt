@@ -3,6 +3,7 @@ pub mod Ops
 pub mod Admitted
 pub mod Tree
 pub mod Grammar
+pub mod Fault
 pub mod Clause
 pub mod Machine
 pub mod Weight

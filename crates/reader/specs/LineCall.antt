@@ -15,6 +15,7 @@ use Rattle.reader.specs.Token.{Token}
 use Rattle.reader.specs.Ops.{operators}
 use Rattle.reader.specs.Tree.{Tree, numbers}
 use Rattle.reader.specs.Grammar.{Reads}
+use Rattle.reader.specs.Fault.{FirstFault}
 use Rattle.reader.specs.Clause.{mostTokens, whole, stopped, tooMany, clauseTokens, firstOffset}
 use Rattle.reader.specs.Listing.{line}
 use Rattle.reader.specs.declared.line_call.LineAnswer.{LineAnswer}
@@ -32,9 +33,9 @@ pub data LineOutcome (s : List ℕ) (c : Cursor) (d : List ℕ) : LineAnswer →
   token : {w : Fault} → valid (length s) c ≡ true → clauseTokens s c ≡ stopped w → LineOutcome s c d (Refused w c) d
   -- 10
   noMark : valid (length s) c ≡ true → clauseTokens s c ≡ tooMany → LineOutcome s c d (Refused (fault TooManyTokens (firstOffset s c)) c) d
-  -- 11: the grammar has no reading
-  noReading : {ts : List Token} {e : Cursor} → valid (length s) c ≡ true → clauseTokens s c ≡ whole ts e → ((t : Tree) → Reads operators ts t → ⊥) →
-      LineOutcome s c d (Refused (fault NoReading (firstOffset s c)) c) d
+  -- 11: the grammar has no reading, and f is the first token that cannot stand
+  noReading : {ts : List Token} {e : Cursor} {f : Token} → valid (length s) c ≡ true → clauseTokens s c ≡ whole ts e → ((t : Tree) → Reads operators ts t → ⊥) →
+      FirstFault operators ts f → LineOutcome s c d (Refused (fault NoReading (f .start)) c) d
   -- 9: the slice is shorter than the line
   noRoom : {ts : List Token} {e : Cursor} {t : Tree} → valid (length s) c ≡ true → clauseTokens s c ≡ whole ts e → Reads operators ts t →
       length d < length (line s ts t) → LineOutcome s c d (Refused (fault NoRoom (firstOffset s c)) c) d

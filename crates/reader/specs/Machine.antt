@@ -321,6 +321,15 @@ module _ (word : NodeKind → ℕ → ℕ) where
 abbrev pub start : State
 start = want (opened top ∷ []) []
 
+-- no token can follow
+unfoldable pub isDead : State → Bool
+isDead (want fs out) = false
+isDead (pend i e m r s fs out) = false
+isDead (begun h i fs out) = false
+isDead (have fs out) = false
+isDead dead = true
+isDead (done out) = false
+
 -- the numbers of what is written, first to last
 unfoldable pub laid : Out → List ℕ
 laid [] = []

@@ -19,7 +19,8 @@ use lexer::is_valid;
 use lexer::next_token;
 use lexer::quoted_text;
 ghost use mathlib.Core.Path.{_≡_};
-ghost use mathlib.Core.Bool.{true};
+ghost use mathlib.Core.Bool.{true, cond};
+ghost use lib.Dec.{eqb};
 ghost use mathlib.Core.Option.{some};
 ghost use Prim.Native.Nat.{_-_, _≤_};
 ghost use lib.ListN.{length};
@@ -30,7 +31,7 @@ ghost use Rattle.reader.specs.Roles.{rolesOf};
 ghost use Rattle.reader.specs.Machine as M;
 ghost use Rattle.reader.specs.Layout.{sightOf, stateOf, outOf};
 ghost use Rattle.reader.specs.Clause.{mostTokens, isEnd, clauseTokens, firstOffset, Outcome};
-ghost use Rattle.reader.specs.Gather.{fewTokens, tokenFrom, sightFrom, clauseRun, resultOf, leaves, nodesOf, byNodes, byTokens, byResult, quotedBytes, ReadFrom, NameFrom, QuotedAt, Taking, Beginning, Copied, GoingOn, Longer, Finished, Finishing};
+ghost use Rattle.reader.specs.Gather.{fewTokens, tokenFrom, sightFrom, deadMode, marksWith, noMarks, clauseRun, resultOf, leaves, nodesOf, byNodes, byTokens, byResult, quotedBytes, ReadFrom, NameFrom, QuotedAt, Taking, Beginning, Copied, GoingOn, Longer, Finished, Finishing};
 ghost use Rattle.reader.specs.declared.clause.ClauseAnswer.{ClauseAnswer};
 
 pub enum ClauseAnswer {
@@ -128,16 +129,68 @@ pub(crate) fn is_end(kind: Kind) -> bool
     }
 }
 
-// The machine behind the end mark of a clause, or behind so many tokens of it, with the offset of the clause's first token.
+// Where the clause's first token starts, for refusals 9 and 10; and where the last token starts that the machine took alive. Of a clause that is refused
+// with 11 that is the first token that cannot stand.
+pub struct Marks {
+    pub first: usize,
+    pub latest: usize,
+}
+
+const NO_MARKS: Marks = Marks {
+    first: 0,
+    latest: 0,
+};
+
+fn is_dead(mode: Mode) -> bool
+    ensures { λ r. ⌜ r ≡ deadMode mode ⌝ }
+{
+    match mode {
+        Mode::Want(_) => false,
+        Mode::Pend(_, _) => false,
+        Mode::Begun(_, _, _) => false,
+        Mode::Have(_) => false,
+        Mode::Dead => true,
+        Mode::Done(_) => false,
+    }
+}
+
+fn first_mark(index: u16, marks: Marks, at: usize) -> usize
+    ensures { λ r. ⌜ r ≡ cond (eqb index 0) at (marks .first) ⌝ }
+{
+    if index == 0 {
+        return at;
+    }
+    marks.first
+}
+
+fn latest_mark(mode: Mode, marks: Marks, at: usize) -> usize
+    ensures { λ r. ⌜ r ≡ cond (deadMode mode) (marks .latest) at ⌝ }
+{
+    if is_dead(mode) {
+        return marks.latest;
+    }
+    at
+}
+
+// The marks with the token of this index, which starts at `at` and is put to the machine.
+fn mark_token(index: u16, mode: Mode, marks: Marks, at: usize) -> Marks
+    ensures { λ r. ⌜ r ≡ marksWith index (deadMode mode) marks at ⌝ }
+{
+    let first = first_mark(index, marks, at);
+    let latest = latest_mark(mode, marks, at);
+    Marks { first, latest }
+}
+
+// The machine behind the end mark of a clause, or behind so many tokens of it, with the clause's marks.
 pub enum Machined {
     Whole {
-        first: usize,
+        marks: Marks,
         mode: Mode,
         next: Cursor,
     },
     Stopped(Fault),
     Paused {
-        first: usize,
+        marks: Marks,
         mode: Mode,
         next: Cursor,
     },
@@ -150,7 +203,7 @@ fn take_tokens(
     cursor: Cursor,
     from: u16,
     to: u16,
-    began: usize,
+    began: Marks,
     before: Mode,
     frames: &mut [u64],
     nodes: &mut [u32],
@@ -161,19 +214,17 @@ fn take_tokens(
     let mut mode = before;
     let mut c = cursor;
     let mut index = from;
-    let mut first = began;
+    let mut marks = began;
     while index < to {
         match next_token(text, c) {
             Answer::Refused { fault, cursor: _ } => return Machined::Stopped(fault),
             Answer::Read { token, next } => {
-                if index == 0 {
-                    first = token.start;
-                }
+                marks = mark_token(index, mode, marks, token.start);
                 let sight = see_token(text, c, token, next);
                 mode = step(mode, index, sight, frames, nodes);
                 let kind = token.kind;
                 if is_end(kind) {
-                    return Machined::Whole { first, mode, next };
+                    return Machined::Whole { marks, mode, next };
                 }
                 c = next;
                 index += 1;
@@ -181,7 +232,7 @@ fn take_tokens(
         }
     }
     Machined::Paused {
-        first,
+        marks,
         mode,
         next: c,
     }
@@ -201,14 +252,14 @@ pub(crate) fn first_offset(text: &[u8], cursor: Cursor) -> usize
     }
 }
 
-// A refusal of the whole clause, which points at its first token.
-fn clause_refused(first: usize, cursor: Cursor, refusal: Refusal) -> ClauseAnswer
-    ensures { λ r. ⌜ r ≡ ClauseAnswer.Refused (fault refusal first) cursor ⌝ }
+// A refusal of the whole clause, which points at a token.
+fn clause_refused(at: usize, cursor: Cursor, refusal: Refusal) -> ClauseAnswer
+    ensures { λ r. ⌜ r ≡ ClauseAnswer.Refused (fault refusal at) cursor ⌝ }
 {
     ClauseAnswer::Refused {
         fault: Fault {
             refusal,
-            offset: first,
+            offset: at,
         },
         cursor,
     }
@@ -216,7 +267,7 @@ fn clause_refused(first: usize, cursor: Cursor, refusal: Refusal) -> ClauseAnswe
 
 // The machine stands behind the end mark, with so many nodes out.
 fn write_clause(
-    first: usize,
+    marks: Marks,
     cursor: Cursor,
     count: usize,
     next: Cursor,
@@ -224,10 +275,10 @@ fn write_clause(
     tree: &mut [u16],
 ) -> ClauseAnswer
     requires { ⌜ Finished count (now nodes) ⌝ }
-    ensures { λ r. ⌜ leaves r (now (tree .exit)) ≡ byNodes first cursor (now (tree .entry)) next (some (outOf (now (nodes .entry)) count)) ⌝ }
+    ensures { λ r. ⌜ leaves r (now (tree .exit)) ≡ byNodes marks cursor (now (tree .entry)) next (some (outOf (now (nodes .entry)) count)) ⌝ }
 {
     if tree.len() < 2 * count {
-        return clause_refused(first, cursor, Refusal::NoRoom);
+        return clause_refused(marks.first, cursor, Refusal::NoRoom);
     }
     put_tree(count, nodes, tree);
     ClauseAnswer::Read { nodes: count, next }
@@ -235,7 +286,7 @@ fn write_clause(
 
 // What the machine behind the end mark says.
 fn finish_clause(
-    first: usize,
+    marks: Marks,
     cursor: Cursor,
     mode: Mode,
     next: Cursor,
@@ -244,15 +295,15 @@ fn finish_clause(
     tree: &mut [u16],
 ) -> ClauseAnswer
     requires { ⌜ Finishing mode (now frames) (now nodes) ⌝ }
-    ensures { λ r. ⌜ leaves r (now (tree .exit)) ≡ byNodes first cursor (now (tree .entry)) next (nodesOf (stateOf mode (now (frames .entry)) (now (nodes .entry)))) ⌝ }
+    ensures { λ r. ⌜ leaves r (now (tree .exit)) ≡ byNodes marks cursor (now (tree .entry)) next (nodesOf (stateOf mode (now (frames .entry)) (now (nodes .entry)))) ⌝ }
 {
     match mode {
-        Mode::Done(count) => write_clause(first, cursor, count, next, nodes, tree),
-        Mode::Want(_) => clause_refused(first, cursor, Refusal::NoReading),
-        Mode::Pend(_, _) => clause_refused(first, cursor, Refusal::NoReading),
-        Mode::Begun(_, _, _) => clause_refused(first, cursor, Refusal::NoReading),
-        Mode::Have(_) => clause_refused(first, cursor, Refusal::NoReading),
-        Mode::Dead => clause_refused(first, cursor, Refusal::NoReading),
+        Mode::Done(count) => write_clause(marks, cursor, count, next, nodes, tree),
+        Mode::Want(_) => clause_refused(marks.latest, cursor, Refusal::NoReading),
+        Mode::Pend(_, _) => clause_refused(marks.latest, cursor, Refusal::NoReading),
+        Mode::Begun(_, _, _) => clause_refused(marks.latest, cursor, Refusal::NoReading),
+        Mode::Have(_) => clause_refused(marks.latest, cursor, Refusal::NoReading),
+        Mode::Dead => clause_refused(marks.latest, cursor, Refusal::NoReading),
     }
 }
 
@@ -262,10 +313,10 @@ const FEW: u16 = 64;
 // The tokens from the first on.
 fn first_tokens(text: &[u8], cursor: Cursor, frames: &mut [u64], nodes: &mut [u32]) -> Machined
     requires { ⌜ Beginning (now text) cursor (now frames) (now nodes) ⌝ }
-    ensures { λ r. ⌜ resultOf r (now (frames .exit)) (now (nodes .exit)) ≡ clauseRun fewTokens 0 0 M.start (now (text .entry)) cursor ⌝ }
+    ensures { λ r. ⌜ resultOf r (now (frames .exit)) (now (nodes .exit)) ≡ clauseRun fewTokens 0 noMarks M.start (now (text .entry)) cursor ⌝ }
 {
     let mode = start(frames, nodes);
-    take_tokens(text, cursor, 0, FEW, 0, mode, frames, nodes)
+    take_tokens(text, cursor, 0, FEW, NO_MARKS, mode, frames, nodes)
 }
 
 // The short array's words stand at the front of the long one.
@@ -298,7 +349,7 @@ const MOST: u16 = 1024;
 fn more_tokens(
     text: &[u8],
     c: Cursor,
-    first: usize,
+    marks: Marks,
     mode: Mode,
     held: &[u64],
     out: &[u32],
@@ -306,18 +357,18 @@ fn more_tokens(
     nodes: &mut [u32],
 ) -> Machined
     requires { ⌜ GoingOn (now text) c mode (now held) (now out) (now frames) (now nodes) ⌝ }
-    ensures { λ r. ⌜ resultOf r (now (frames .exit)) (now (nodes .exit)) ≡ clauseRun (mostTokens - fewTokens) fewTokens first (stateOf mode (now (held .entry)) (now (out .entry))) (now (text .entry)) c ⌝ }
+    ensures { λ r. ⌜ resultOf r (now (frames .exit)) (now (nodes .exit)) ≡ clauseRun (mostTokens - fewTokens) fewTokens marks (stateOf mode (now (held .entry)) (now (out .entry))) (now (text .entry)) c ⌝ }
 {
     copy_frames(held, frames);
     copy_nodes(out, nodes);
-    take_tokens(text, c, FEW, MOST, first, mode, frames, nodes)
+    take_tokens(text, c, FEW, MOST, marks, mode, frames, nodes)
 }
 
 // A clause of more tokens than the short arrays served. The machine takes a word for each token at most, and one before the first.
 fn long_clause(
     text: &[u8],
     cursor: Cursor,
-    first: usize,
+    marks: Marks,
     mode: Mode,
     c: Cursor,
     held: &[u64],
@@ -325,19 +376,19 @@ fn long_clause(
     tree: &mut [u16],
 ) -> ClauseAnswer
     requires { ⌜ Longer (now text) mode c (now held) (now out) ⌝ }
-    ensures { λ r. ⌜ leaves r (now (tree .exit)) ≡ byResult cursor (now (tree .entry)) (clauseRun (mostTokens - fewTokens) fewTokens first (stateOf mode (now (held .entry)) (now (out .entry))) (now (text .entry)) c) ⌝ }
+    ensures { λ r. ⌜ leaves r (now (tree .exit)) ≡ byResult cursor (now (tree .entry)) (clauseRun (mostTokens - fewTokens) fewTokens marks (stateOf mode (now (held .entry)) (now (out .entry))) (now (text .entry)) c) ⌝ }
 {
     let mut frames = [0u64; 1025];
     let mut nodes = [0u32; 1025];
-    match more_tokens(text, c, first, mode, held, out, &mut frames, &mut nodes) {
+    match more_tokens(text, c, marks, mode, held, out, &mut frames, &mut nodes) {
         Machined::Stopped(fault) => ClauseAnswer::Refused { fault, cursor },
         Machined::Paused {
-            first: began,
+            marks: began,
             mode: _,
             next: _,
-        } => clause_refused(began, cursor, Refusal::TooManyTokens),
+        } => clause_refused(began.first, cursor, Refusal::TooManyTokens),
         Machined::Whole {
-            first: began,
+            marks: began,
             mode: last,
             next,
         } => finish_clause(began, cursor, last, next, &frames, &nodes, tree),
@@ -353,11 +404,11 @@ fn clause_at(text: &[u8], cursor: Cursor, tree: &mut [u16]) -> ClauseAnswer
     let mut nodes = [0u32; 65];
     match first_tokens(text, cursor, &mut frames, &mut nodes) {
         Machined::Stopped(fault) => ClauseAnswer::Refused { fault, cursor },
-        Machined::Paused { first, mode, next } => {
-            long_clause(text, cursor, first, mode, next, &frames, &nodes, tree)
+        Machined::Paused { marks, mode, next } => {
+            long_clause(text, cursor, marks, mode, next, &frames, &nodes, tree)
         }
-        Machined::Whole { first, mode, next } => {
-            finish_clause(first, cursor, mode, next, &frames, &nodes, tree)
+        Machined::Whole { marks, mode, next } => {
+            finish_clause(marks, cursor, mode, next, &frames, &nodes, tree)
         }
     }
 }

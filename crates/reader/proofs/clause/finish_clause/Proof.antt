@@ -16,6 +16,7 @@ use Rattle.reader.specs.declared.machine.Spot.{Spot}
 use Rattle.reader.specs.declared.machine.Pending.{Pending}
 use Rattle.reader.specs.declared.machine.Shape.{Shape}
 use Rattle.reader.specs.declared.machine.Mode.{Mode}
+use Rattle.reader.specs.declared.clause.Marks.{Marks}
 use Rattle.reader.specs.declared.clause.ClauseAnswer.{ClauseAnswer}
 use Rattle.reader.proofs.Turns.{length-out}
 use Rattle.reader.proofs.clause.finish_clause.Statement.{statement}
@@ -27,13 +28,13 @@ finished m st ns n f w =
     let g : weight (stateOf (Mode.Done n) st ns) ≤ length ns = rw f at (w .weight-left) in
     record { nodes = omega (arith, length-out ns n); words = w .words }
 
--- by the mode, where o is the offset of the first token
-module _ (o : ℕ) (c : Cursor) (m : Mode) (e : Cursor) (st ns d : List ℕ) where
+-- by the mode
+module _ (o : Marks) (c : Cursor) (m : Mode) (e : Cursor) (st ns d : List ℕ) where
   accepted : (n : ℕ) → m ≡ Mode.Done n → (r : ClauseAnswer) (d′ : List ℕ) → leaves r d′ ≡ byNodes o c d e (some (outOf ns n)) → leaves r d′ ≡ byNodes o c d e (nodesOf (stateOf m st ns))
   unfolding nodesOf stateOf
   accepted n f r d′ g = g ∙ sym (ap (λ (x : Mode). byNodes o c d e (nodesOf (stateOf x st ns))) f)
 
-  module _ (r : ClauseAnswer) (g : r ≡ ClauseAnswer.Refused (fault NoReading o) c) where
+  module _ (r : ClauseAnswer) (g : r ≡ ClauseAnswer.Refused (fault NoReading (o .latest)) c) where
     wants : (p : Spot) → m ≡ Mode.Want p → leaves r d ≡ byNodes o c d e (nodesOf (stateOf m st ns))
     unfolding nodesOf stateOf byNodes
     wants p f = cc

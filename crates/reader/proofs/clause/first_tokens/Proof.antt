@@ -9,7 +9,7 @@ use Rattle.lexer.specs.declared.cursor.Cursor.{Cursor}
 use Rattle.reader.specs.Machine.{State, size, start}
 use Rattle.reader.specs.Weight.{sizes, weight}
 use Rattle.reader.specs.Layout.{stateOf, Room}
-use Rattle.reader.specs.Gather.{fewTokens, Result, clauseRun, Taking, Beginning}
+use Rattle.reader.specs.Gather.{fewTokens, noMarks, Result, clauseRun, Taking, Beginning}
 use Rattle.reader.specs.declared.machine.Mode.{Mode}
 use Rattle.reader.proofs.clause.first_tokens.Statement.{statement}
 use Rattle.reader.proofs.clause.first_tokens.Tie as tie
@@ -30,8 +30,8 @@ module _ (s : List ℕ) (c : Cursor) (m : Mode) (st ns : List ℕ) (e : stateOf 
         words = rw e (omega arith);
       }
 
-  ran : (r : Result) → r ≡ clauseRun fewTokens 0 0 (stateOf m st ns) s c → r ≡ clauseRun fewTokens 0 0 start s c
-  ran r f = f ∙ ap (λ (z : State). clauseRun fewTokens 0 0 z s c) e
+  ran : (r : Result) → r ≡ clauseRun fewTokens 0 noMarks (stateOf m st ns) s c → r ≡ clauseRun fewTokens 0 noMarks start s c
+  ran r f = f ∙ ap (λ (z : State). clauseRun fewTokens 0 noMarks z s c) e
 
 ruleset ways = (room, taking, ran, needs)
 

@@ -13,6 +13,7 @@ use Rattle.reader.specs.Layout.{stateOf}
 use Rattle.reader.specs.Clause.{mostTokens}
 use Rattle.reader.specs.Gather.{fewTokens, leaves, nodesOf, Result, byNodes, byResult, clauseRun, resultOf, Longer, GoingOn, Finishing}
 use Rattle.reader.specs.declared.machine.Mode.{Mode}
+use Rattle.reader.specs.declared.clause.Marks.{Marks}
 use Rattle.reader.specs.declared.clause.Machined.{Machined}
 use Rattle.reader.specs.declared.clause.ClauseAnswer.{ClauseAnswer}
 use Rattle.reader.proofs.Runs.{finished-light}
@@ -23,7 +24,7 @@ module _ (s : List ℕ) (m : Mode) (k : Cursor) (st ns : List ℕ) (w : Longer s
   going : (fs os : List ℕ) → length fs ≡ 1025 → length os ≡ 1025 → GoingOn s k m st ns fs os
   going fs os f g = record { longer = w; frames = omega arith; nodes = omega arith }
 
-  finishing : (o : ℕ) (r : Machined) (fs os : List ℕ) (o′ : ℕ) (m′ : Mode) (n : Cursor) → resultOf r fs os ≡ clauseRun (mostTokens - fewTokens) fewTokens o (stateOf m st ns) s k
+  finishing : (o : Marks) (r : Machined) (fs os : List ℕ) (o′ : Marks) (m′ : Mode) (n : Cursor) → resultOf r fs os ≡ clauseRun (mostTokens - fewTokens) fewTokens o (stateOf m st ns) s k
       → r ≡ Machined.Whole o′ m′ n → length os ≡ 1025 → Finishing m′ fs os
   unfolding resultOf
   finishing o r fs os o′ m′ n e f g =
@@ -39,8 +40,8 @@ module _ (c : Cursor) (d : List ℕ) (x : Result) (r : Machined) (fs os : List �
   unfolding resultOf byResult
   stopped w f = told (Machined.Stopped w) f
 
-  module _ (o : ℕ) (m : Mode) (n : Cursor) (a : ClauseAnswer) where
-    too-many : r ≡ Machined.Paused o m n → a ≡ ClauseAnswer.Refused (fault TooManyTokens o) c → leaves a d ≡ byResult c d x
+  module _ (o : Marks) (m : Mode) (n : Cursor) (a : ClauseAnswer) where
+    too-many : r ≡ Machined.Paused o m n → a ≡ ClauseAnswer.Refused (fault TooManyTokens (o .first)) c → leaves a d ≡ byResult c d x
     unfolding resultOf byResult
     too-many f g = ap (λ (y : ClauseAnswer). leaves y d) g ∙ told (Machined.Paused o m n) f
 

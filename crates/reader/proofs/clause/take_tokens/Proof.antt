@@ -3,11 +3,9 @@
 use Prim.Native.Nat.{ℕ, suc, _+_, _-_, _<_, _≤_}
 use mathlib.Core.Path.{_≡_, refl, sym, _∙_, ap}
 use mathlib.Core.Bool.{Bool, true, false}
-use mathlib.Core.Logic.{⊎-elim}
 use mathlib.Core.List.{List}
 use native.Mathlib.Omega.{arith}
 use borrow.Author.Needs.{needs}
-use borrow.Author.Tests.{ne-eqb}
 use lib.ListN.{length}
 use Rattle.lexer.specs.Token.{nextToken}
 use Rattle.lexer.specs.declared.cursor.Cursor.{Cursor}
@@ -16,11 +14,14 @@ use Rattle.lexer.specs.declared.token.Token as lexer
 use Rattle.lexer.specs.declared.token.Answer.{Answer}
 use Rattle.reader.specs.Tree.{packed}
 use Rattle.reader.specs.Machine as M
+use Rattle.reader.specs.Machine.{isDead}
 use Rattle.reader.specs.Layout.{stateOf, sightOf, Ready}
 use Rattle.reader.specs.Clause.{isEnd}
-use Rattle.reader.specs.Gather.{sightFrom, ReadFrom, began, clauseRun, resultOf, Taking}
+use Rattle.reader.specs.Gather.{sightFrom, ReadFrom, deadMode, marksWith, marked, clauseRun, resultOf, Taking}
 use Rattle.reader.specs.declared.machine.Mode.{Mode}
+use Rattle.reader.specs.declared.machine.Mode.the-variants.{Want, Pend, Begun, Have, Dead, Done}
 use Rattle.reader.specs.declared.machine.Sight.{Sight}
+use Rattle.reader.specs.declared.clause.Marks.{Marks}
 use Rattle.reader.specs.declared.clause.Machined.{Machined}
 use Rattle.reader.proofs.Sights.{known}
 use Rattle.reader.proofs.Size.{step-size}
@@ -28,24 +29,26 @@ use Rattle.reader.proofs.Turns.{told-refused, next-valid, ready, takes-
 use Rattle.reader.proofs.clause.take_tokens.Statement.{statement}
 use Rattle.reader.proofs.clause.take_tokens.Tie as tie
 
-record Inv (s : List ℕ) (c₀ : Cursor) (from to f₀ : ℕ) (m₀ : Mode) (st₀ ns₀ : List ℕ) (c : Cursor) (i f : ℕ) (m : Mode) (st ns : List ℕ) : Type 0 where
+record Inv (s : List ℕ) (c₀ : Cursor) (from to : ℕ) (f₀ : Marks) (m₀ : Mode) (st₀ ns₀ : List ℕ) (c : Cursor) (i : ℕ) (f : Marks) (m : Mode) (st ns : List ℕ) : Type 0 where
   same : clauseRun (to - from) from f₀ (stateOf m₀ st₀ ns₀) s c₀ ≡ clauseRun (to - i) i f (stateOf m st ns) s c
   taking : Taking s c i to m st ns
   frames : length st ≡ length st₀
   nodes : length ns ≡ length ns₀
 
-started : (s : List ℕ) (c : Cursor) (from to f : ℕ) (m : Mode) (st ns : List ℕ) → Taking s c from to m st ns → Inv s c from to f m st ns c from f m st ns
+started : (s : List ℕ) (c : Cursor) (from to : ℕ) (f : Marks) (m : Mode) (st ns : List ℕ) → Taking s c from to m st ns → Inv s c from to f m st ns c from f m st ns
 started s c from to f m st ns w = record { same = refl; taking = w; frames = refl; nodes = refl }
 
--- the first token's offset behind a token: set at index 0, else as it was
-set-there : {i g : ℕ} (f : ℕ) (t : lexer.Token) → i ≡ 0 → g ≡ t .start → g ≡ began i f t
-set-there f t h e = cc
-
-left-alone : {i f g : ℕ} (t : lexer.Token) → (i ≡ 0 → ⊥) → g ≡ f → g ≡ began i f t
-left-alone {i} t h e = cc (ne-eqb i 0 h)
+dead-mode : (m : Mode) (st ns : List ℕ) → isDead (stateOf m st ns) ≡ deadMode m
+unfolding isDead stateOf
+dead-mode (Want p) st ns = refl
+dead-mode (Pend p q) st ns = refl
+dead-mode (Begun p h k) st ns = refl
+dead-mode (Have p) st ns = refl
+dead-mode Dead st ns = refl
+dead-mode (Done n) st ns = refl
 
 -- the ways out of the loop and of a turn, over plain values: a is what the token call answered
-module _ (s : List ℕ) (c₀ : Cursor) (from to f₀ : ℕ) (m₀ : Mode) (st₀ ns₀ : List ℕ) (c : Cursor) (i f : ℕ) (m : Mode) (st ns : List ℕ) (v : Inv s c₀ from to f₀ m₀ st₀ ns₀ c i f m st ns) where
+module _ (s : List ℕ) (c₀ : Cursor) (from to : ℕ) (f₀ : Marks) (m₀ : Mode) (st₀ ns₀ : List ℕ) (c : Cursor) (i : ℕ) (f : Marks) (m : Mode) (st ns : List ℕ) (v : Inv s c₀ from to f₀ m₀ st₀ ns₀ c i f m st ns) where
   pauses : to ≤ i → resultOf (Machined.Paused f m c) st ns ≡ clauseRun (to - from) from f₀ (stateOf m₀ st₀ ns₀) s c₀
   unfolding resultOf clauseRun
   pauses h =
@@ -81,7 +84,11 @@ module _ (s : List ℕ) (c₀ : Cursor) (from to f₀ : ℕ) (m₀ : Mode) (st�
         read-there : ReadFrom s c t d
         read-there = record { reads = sym e ∙ g }
 
-        module _ (k : Sight) (q : sightOf k ≡ sightFrom s c) (r : Mode) (st′ ns′ : List ℕ) (y : stateOf r st′ ns′ ≡ M.step packed (stateOf m st ns) i (sightOf k)) (b : Bool) (j : b ≡ isEnd (t .kind)) (f′ : ℕ) (o : f′ ≡ began i f t) where
+        module _ (k : Sight) (q : sightOf k ≡ sightFrom s c) (r : Mode) (st′ ns′ : List ℕ) (y : stateOf r st′ ns′ ≡ M.step packed (stateOf m st ns) i (sightOf k)) (b : Bool) (j : b ≡ isEnd (t .kind)) (f′ : Marks) (o₀ : f′ ≡ marksWith i (deadMode m) f (t .start)) where
+          -- the marks behind the token
+          o : f′ ≡ marked i (stateOf m st ns) f t
+          o = o₀ ∙ ap (λ (b : Bool). marksWith i b f (t .start)) (sym (dead-mode m st ns))
+
           -- the machine behind the token
           behind : stateOf r st′ ns′ ≡ M.step packed (stateOf m st ns) i (sightFrom s c)
           behind = y ∙ ap (M.step packed (stateOf m st ns) i) q
@@ -114,18 +121,12 @@ module _ (s : List ℕ) (c₀ : Cursor) (from to f₀ : ℕ) (m₀ : Mode) (st�
               }
 
 abbrev Inv-loop : tie.InvT-loop
-Inv-loop text from to began frames₀ nodes₀ mode₀ c₀ index₀ first₀ frames nodes mode c index first = Inv text c₀ from to began mode₀ frames₀ nodes₀ c index first mode frames nodes
+Inv-loop text from to frames₀ nodes₀ mode₀ c₀ index₀ marks₀ frames nodes mode c index marks = Inv text c₀ from to marks₀ mode₀ frames₀ nodes₀ c index marks mode frames nodes
 
 abbrev μ-loop : tie.MeasureT-loop
-μ-loop text from to began frames₀ nodes₀ mode₀ c₀ index₀ first₀ frames nodes mode c index first = to - index
+μ-loop text from to frames₀ nodes₀ mode₀ c₀ index₀ marks₀ frames nodes mode c index marks = to - index
 
--- so where the arms of that branch meet
-joined : (c : tie.Joined1 Inv-loop μ-loop) → let v = c .before .before .before .before .before .before .loop in c .if1 .first ≡ began (v .index) (v .first) (c .before .before .token .given .0 .0)
-joined c =
-    let t = c .before .before .token .given .0 .0 in
-    ⊎-elim (λ w. set-there _ t (w .0 .taken) (w .1)) (λ w. left-alone t (w .0 .left) (w .1)) (c .if1 .came)
-
-ruleset ways = (started, pauses, less, next-fits, room, stops, read-there, joined, ends, again, needs)
+ruleset ways = (started, pauses, less, next-fits, room, stops, read-there, ends, again, needs)
 
 -- answers
 loop-holds : tie.Need-loop-holds Inv-loop μ-loop
@@ -148,6 +149,9 @@ returns c = search ways
 
 enum-known-token : tie.Need-enum-known-token Inv-loop μ-loop
 enum-known-token c = search ways
+
+mark-token-requires : tie.Need-mark-token-requires Inv-loop μ-loop
+mark-token-requires c κs = search ways
 
 see-token-requires : tie.Need-see-token-requires Inv-loop μ-loop
 see-token-requires c κs = search ways
@@ -198,6 +202,7 @@ take-tokens-spec =
     same-length-2
     returns
     enum-known-token
+    mark-token-requires
     see-token-requires
     step-requires
     is-end-requires

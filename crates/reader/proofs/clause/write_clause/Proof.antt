@@ -14,13 +14,14 @@ use Rattle.lexer.specs.declared.refusal.Refusal.the-variants.{NoRoom}
 use Rattle.reader.specs.Machine.{laid}
 use Rattle.reader.specs.Layout.{outOf, Copies}
 use Rattle.reader.specs.Gather.{leaves, byNodes, Finished}
+use Rattle.reader.specs.declared.clause.Marks.{Marks}
 use Rattle.reader.specs.declared.clause.ClauseAnswer.{ClauseAnswer}
 use Rattle.reader.proofs.Turns.{length-out}
 use Rattle.reader.proofs.clause.write_clause.Statement.{statement}
 use Rattle.reader.proofs.clause.write_clause.Tie as tie
 
-module _ (f : ℕ) (c : Cursor) (n : ℕ) (ns d : List ℕ) (e : Cursor) where
-  no-room : (r : ClauseAnswer) → length d < 2 * n → r ≡ ClauseAnswer.Refused (fault NoRoom f) c → leaves r d ≡ byNodes f c d e (some (outOf ns n))
+module _ (f : Marks) (c : Cursor) (n : ℕ) (ns d : List ℕ) (e : Cursor) where
+  no-room : (r : ClauseAnswer) → length d < 2 * n → r ≡ ClauseAnswer.Refused (fault NoRoom (f .first)) c → leaves r d ≡ byNodes f c d e (some (outOf ns n))
   unfolding byNodes
   no-room r h g =
       let m = length-out ns n in

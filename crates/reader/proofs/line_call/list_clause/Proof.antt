@@ -34,7 +34,7 @@ module _ (s : List ℕ) (c : Cursor) (tree : List ℕ) (n : length tree ≡ 2048
     refused a x (invalid v) h = carry a h (lined.invalid v)
     refused a x (token v g) h = carry a h (lined.token v g)
     refused a x (noMark v g) h = carry a h (lined.noMark v g)
-    refused a x (noReading v g q) h = carry a h (lined.noReading v g q)
+    refused a x (noReading v g q f) h = carry a h (lined.noReading v g q f)
     refused a x (noRoom {ts} {e} {t} v g q l) h =
         absurd (omega (arith, few-numbers s c ts e v g t q))
     refused a x (read v g q m l) h = let z : _≡_ {A = ℕ} 0 1 = cc in absurd (omega arith)
