@@ -14,8 +14,8 @@ use Rattle.lexer.specs.declared.cursor.Cursor.{Cursor}
 use Rattle.lexer.proofs.Theorems.{is-valid, lexeme-bounds, move-offset, part-at, part-none}
 use Rattle.reader.specs.Token.{Token}
 use Rattle.reader.specs.Tree.{Tree}
-use Rattle.reader.specs.Clause.{mostTokens, tokenIn, isEnd, Gathered, whole, stopped, tooMany, with, onward, gather, firstOffset}
-use Rattle.reader.proofs.Theorems.{clause-starts}
+use Rattle.reader.specs.Clause.{mostTokens, tokenIn, isEnd, whole, with, onward, gather, firstOffset}
+use Rattle.reader.proofs.Theorems.{tokens-apart, clause-starts}
 use Rattle.pack.specs.Node.{most}
 use Rattle.pack.specs.Image.{line}
 use Rattle.pack.specs.ClauseCall.{ClauseAt, formAt, clauseForm}
@@ -113,12 +113,6 @@ module _ (s : List ℕ) (c : Cursor) (o : ℕ) (l : c .offset ≤ o) (h : True s
   move-true i = line-true ∙ ap (λ (n : ℕ). newlines (take n s)) (sym (move-offset s c o l i))
 
 -- of tokens that were gathered, the cursor behind the last one
-after : (t : Token) (g : Gathered) (ts : List Token) (e : Cursor) → with t g ≡ whole ts e → (us : List Token) × (g ≡ whole us e)
-unfolding with
-after t (whole us d) ts e h = (us, cc)
-after t (stopped w) ts e h = let z : _≡_ {A = ℕ} 0 1 = cc in absurd (omega arith)
-after t tooMany ts e h = let z : _≡_ {A = ℕ} 0 1 = cc in absurd (omega arith)
-
 module _ (s : List ℕ) (c : Cursor) (n : ℕ) (ts : List Token) (e : Cursor) (i : c .offset ≤ length s) (h : True s c)
     (next : (d : Cursor) (us : List Token) → d .offset ≤ length s → True s d → gather n s d ≡ whole us e → True s e) where
   one-lexeme : (x : Lexeme) → readLexeme false s (c .offset) ≡ x → onward s c x (λ d. gather n s d) ≡ whole ts e → True s e
@@ -129,8 +123,8 @@ module _ (s : List ℕ) (c : Cursor) (n : ℕ) (ts : List Token) (e : Cursor) (i
       go : c .offset ≤ k → k ≤ length s → (b : Bool) → cond b (whole (tokenIn s t k x ∷ []) (moveTo s c k)) (with (tokenIn s t k x) (gather n s (moveTo s c k))) ≡ whole ts e → True s e
       go u v true r = let z : moveTo s c k ≡ e = cc in subst (True s) z (move-true s c k u h v)
       go u v false r =
-          let a = after (tokenIn s t k x) (gather n s (moveTo s c k)) ts e r in
-          next (moveTo s c k) (a .0) (omega (arith, move-offset s c k u v)) (move-true s c k u h v) (a .1)
+          let a = tokens-apart (tokenIn s t k x) ts e (gather n s (moveTo s c k)) r in
+          next (moveTo s c k) (a .0) (omega (arith, move-offset s c k u v)) (move-true s c k u h v) (a .2)
 
 gather-true : (n : ℕ) (s : List ℕ) (c : Cursor) (ts : List Token) (e : Cursor) → c .offset ≤ length s → True s c → gather n s c ≡ whole ts e → True s e
 unfolding gather

@@ -14,8 +14,9 @@ use Rattle.reader.specs.Grammar.{Reads}
 use Rattle.reader.specs.Fault.{FirstFault}
 use Rattle.reader.specs.Machine as M
 use Rattle.reader.specs.Machine.{State, dead, run, start, isDead}
-use Rattle.reader.specs.Clause.{mostTokens, Gathered, whole, stopped, tooMany, with, onward, gather, clauseTokens, tokenIn, isEnd}
+use Rattle.reader.specs.Clause.{mostTokens, Gathered, whole, with, onward, gather, clauseTokens, tokenIn, isEnd}
 use Rattle.reader.specs.Gather.{seen, latestFrom}
+use Rattle.reader.proofs.Spans.{tail}
 use Rattle.reader.proofs.Table.{fair, operators-admitted}
 use Rattle.reader.proofs.Viable.{dead-is, Dies, dies-there, a-death}
 
@@ -66,10 +67,7 @@ marked-on : (t : Token) (ts : List Token) → Marked ts → Marked (t ∷ ts)
 marked-on t ts m = record { front = t ∷ m .front; last = m .last; parts = ap (λ (z : List Token). t ∷ z) (m .parts); mark = m .mark }
 
 marked-with : (t : Token) (ts : List Token) (e : Cursor) (y : Gathered) → ((us : List Token) (f : Cursor) → y ≡ whole us f → Marked us) → with t y ≡ whole ts e → Marked ts
-unfolding with
-marked-with t ts e (whole us f) i k = let q : t ∷ us ≡ ts = cc in subst (λ (z : List Token). Marked z) q (marked-on t us (i us f refl))
-marked-with t ts e (stopped w) i k = let z : _≡_ {A = ℕ} 0 1 = cc in absurd (omega arith)
-marked-with t ts e tooMany i k = let z : _≡_ {A = ℕ} 0 1 = cc in absurd (omega arith)
+marked-with t ts e y i k = let a = tail t ts e y k in subst (λ (z : List Token). Marked z) (sym (a .1)) (marked-on t (a .0) (i (a .0) e (a .2)))
 
 gathered-marked : (n : ℕ) (s : List ℕ) (c : Cursor) (ts : List Token) (e : Cursor) → gather n s c ≡ whole ts e → Marked ts
 unfolding gather onward

@@ -94,14 +94,9 @@ pub record Few (s : List ℕ) (c : Cursor) (n : ℕ) (ts : List Token) (e : Curs
   pub next-passes : valid (length s) e ≡ true
 
 -- taken apart
-record Tail (t : Token) (ts : List Token) (e : Cursor) (g : Gathered) : Type 0 where
-  rest : List Token
-  same : ts ≡ t ∷ rest
-  left : g ≡ whole rest e
-
-tail : (t : Token) (ts : List Token) (e : Cursor) (g : Gathered) → with t g ≡ whole ts e → Tail t ts e g
+pub tail : (t : Token) (ts : List Token) (e : Cursor) (g : Gathered) → with t g ≡ whole ts e → (us : List Token) × (ts ≡ t ∷ us) × (g ≡ whole us e)
 unfolding with
-tail t ts e (whole us d) h = record { rest = us; same = cc; left = cc }
+tail t ts e (whole us d) h = (us, cc, cc)
 tail t ts e (stopped w) h = let z : _≡_ {A = ℕ} 0 1 = cc in absurd (omega arith)
 tail t ts e tooMany h = let z : _≡_ {A = ℕ} 0 1 = cc in absurd (omega arith)
 
@@ -130,12 +125,12 @@ module _ (s : List ℕ) (c : Cursor) (v : valid (length s) c ≡ true) (n : ℕ)
           let k = known s c t d r in
           let p = token-promises s c t d r in
           let a = tail (tokenIn s t (d .offset) (k .text)) ts e (gather n s d) (sym (gather-on s c t d k n b) ∙ g) in
-          let f = next d (p .next-passes) (a .rest) (a .left) in
-          subst (λ (us : List Token). Few s c (suc n) us e) (sym (a .same))
+          let f = next d (p .next-passes) (a .0) (a .2) in
+          subst (λ (us : List Token). Few s c (suc n) us e) (sym (a .1))
           (record {
             few = omega (arith, f .few);
             chain = more (p .behind) (p .ahead) (f .chain);
-            told = told-known s c t d k n (a .rest) (f .told);
+            told = told-known s c t d k n (a .0) (f .told);
             further = omega (arith, p .further, f .further);
             inside = f .inside;
             next-passes = f .next-passes;

@@ -21,7 +21,7 @@ use Rattle.reader.specs.Tree.{NodeKind, kindNumber, Tree, packed, number
 use Rattle.reader.specs.Grammar.{Clause, Reads}
 use Rattle.reader.specs.Fault.{Chain, FirstFault}
 use Rattle.reader.specs.Machine.{Out, done, run, start, answer, Numbered}
-use Rattle.reader.specs.Clause.{mostTokens, whole, stopped, clauseTokens, firstOffset, Outcome}
+use Rattle.reader.specs.Clause.{mostTokens, Gathered, whole, stopped, with, clauseTokens, firstOffset, Outcome}
 use Rattle.reader.specs.Listing.{Within, kindOf, tokenAt, line, Source}
 use Rattle.reader.specs.LineCall.{longestLine, LineOutcome, ReadTree, Spans}
 use Rattle.reader.specs.declared.clause.ClauseAnswer.{ClauseAnswer}
@@ -35,6 +35,7 @@ use Rattle.reader.proofs.Returns.{tokens-alike, outcome-alike}
 use Rattle.reader.proofs.Indexes.{reads-within}
 use Rattle.reader.proofs.Terms.{packed-both, packed-kind}
 use Rattle.reader.proofs.TreeRoom.{few-numbers, first-behind, first-inside, chained, fault-within, tree-within, first-span, spans-part, spans-source, read-front, refused-always, refused-back}
+use Rattle.reader.proofs.Spans.{tail}
 use Rattle.reader.proofs.Table.{same-exactly, fair, operators-admitted}
 use Rattle.reader.proofs.Answer.{answer-complete, answer-sound, one-tree, reads?, tree-small}
 use Rattle.reader.proofs.Specimens.{Holds, All, table, specimens}
@@ -147,6 +148,11 @@ pub line-refused : (s : List ℕ) (c : Cursor) (d : List ℕ) → longestLine �
 line-refused = refused-anyway
 
 -- ---- what calls above the clause call go by (the line, the pack)
+
+-- A clause's tokens, taken apart.
+pub tokens-apart : (t : Token) (ts : List Token) (e : Cursor) (g : Gathered) → with t g ≡ whole ts e → (us : List Token) × (ts ≡ t ∷ us) × (g ≡ whole us e)
+tokens-apart = tail
+
 module _ (s : List ℕ) (c : Cursor) where
   -- A tree slice of 2,046 numbers always serves: with it a refusal is not for room, and stands whatever the slice;
   pub clause-refused : (d : List ℕ) → 2 * mostTokens ≤ length d + 2 → (w : Fault) (k : Cursor) (a : ClauseAnswer) (x : List ℕ) → Outcome s c d a x → a ≡ ClauseAnswer.Refused w k

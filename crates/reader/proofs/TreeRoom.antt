@@ -1,6 +1,6 @@
 -- The clause call with a tree slice that has room for every clause, and the spans of the clause's tokens: what the calls above it go by. Assumes nothing.
 use Prim.Native.Nat.{ℕ, zero, suc, _+_, _*_, _<_, _≤_}
-use mathlib.Core.Path.{_≡_, refl, _∙_, ap, subst}
+use mathlib.Core.Path.{_≡_, refl, sym, _∙_, ap, subst}
 use mathlib.Core.Bool.{Bool, true, false, cond}
 use mathlib.Core.List.{List, [], _∷_}
 use native.Mathlib.Omega.{arith}
@@ -15,7 +15,7 @@ use Rattle.reader.specs.Token.{Token}
 use Rattle.reader.specs.Ops.{Table, operators}
 use Rattle.reader.specs.Tree.{Tree, numbers}
 use Rattle.reader.specs.Grammar.{Reads}
-use Rattle.reader.specs.Clause.{mostTokens, tokenIn, isEnd, Gathered, whole, stopped, tooMany, with, onward, gather, clauseTokens, startOf, firstOffset, Outcome, invalid, token, noMark, noReading, noRoom, read}
+use Rattle.reader.specs.Clause.{mostTokens, tokenIn, isEnd, Gathered, whole, with, onward, gather, clauseTokens, startOf, firstOffset, Outcome, invalid, token, noMark, noReading, noRoom, read}
 use Rattle.reader.specs.Listing.{tokenAt, Source, Within}
 use Rattle.reader.specs.LineCall.{ReadTree, Spans}
 use Rattle.reader.specs.declared.clause.ClauseAnswer.{ClauseAnswer}
@@ -25,7 +25,7 @@ use Rattle.reader.specs.Fault.{Chain, none, more, FirstFault}
 use Rattle.reader.proofs.Chains.{begins, within, front-at, source-of}
 use Rattle.reader.proofs.Indexes.{reads-within}
 use Rattle.reader.proofs.Puts.{sets-front}
-use Rattle.reader.proofs.Spans.{terminals-length, gathered-few}
+use Rattle.reader.proofs.Spans.{terminals-length, tail, gathered-few}
 use Rattle.reader.proofs.Table.{fair, operators-admitted}
 
 -- ---- a clause's first token
@@ -34,10 +34,7 @@ record First (ts : List Token) (at : ℕ) : Type 0 where
   start : tokenAt ts 0 .start ≡ at
 
 first-with : (t : Token) (g : Gathered) (ts : List Token) (e : Cursor) → with t g ≡ whole ts e → First ts (t .start)
-unfolding with
-first-with t (whole us d) ts e h = let q : t ∷ us ≡ ts = cc in subst (λ (l : List Token). First l (t .start)) q (record { some = omega arith; start = refl })
-first-with t (stopped w) ts e h = let z : _≡_ {A = ℕ} 0 1 = cc in absurd (omega arith)
-first-with t tooMany ts e h = let z : _≡_ {A = ℕ} 0 1 = cc in absurd (omega arith)
+first-with t g ts e h = let a = tail t ts e g h in subst (λ (l : List Token). First l (t .start)) (sym (a .1)) (record { some = omega arith; start = refl })
 
 first-onward : (s : List ℕ) (c : Cursor) (x : Lexeme) (next : Cursor → Gathered) (ts : List Token) (e : Cursor) → onward s c x next ≡ whole ts e → First ts (startOf x)
 unfolding onward startOf with
