@@ -1,6 +1,8 @@
 """Document 01's clause grammar, read plainly by precedence climbing: a second reader beside the proved one, with which it shares nothing.
 It was written from document 01 and the settled open points, not from the machine of crates/reader. Its tokenizer knows whole tokens only:
-where one is malformed or the text ends in it, it raises NotMine, and the answer has to be written by hand."""
+where one is malformed or the text ends in it, it raises NotMine, and the answer has to be written by hand.
+Where a clause has no reading, the first token that cannot stand (request 12 of document 02) is found by trying: tokens that some clause begins with
+can be completed to a clause that reads. hold-faults holds this against earley.py, which needs no completions."""
 import re
 
 MOST_TOKENS = 1024
@@ -24,6 +26,11 @@ PREFIX_OPERATORS = {name: (priority, kind) for priority, kind, names in (
     (200, "fy", "- \\"),
 ) for name in names.split()}
 COMMA = (1000, "xfy")
+
+# the opening brackets with what closes them
+CLOSING = {"open": "close", "open_ct": "close", "open_list": "close_list", "open_curly": "close_curly"}
+# what a clause may go on with, before it closes its brackets: see `begins`
+NEXT = ((), ("open_ct", "variable", "close"))
 
 SOLO = {"(": "open_ct", ")": "close", "[": "open_list", "]": "close_list", "{": "open_curly", "}": "close_curly", ",": "comma"}
 LAYOUT = re.compile(r"(?:[ \t\r\n]|%[^\n]*(?:\n|$)|/\*.*?\*/)*", re.S)
@@ -125,6 +132,8 @@ class Reader:
     def clause(self):
         self.place(1200, ("end",))
         self.take("end")
+        if self.at < len(self.tokens):
+            raise NoReading
         return self.nodes
 
     def place(self, most, ends):
@@ -223,6 +232,55 @@ class Reader:
         return 0
 
 
+def reads(tokens):
+    try:
+        Reader(tokens).clause()
+    except NoReading:
+        return False
+    return True
+
+
+def due(tokens):
+    """The closing brackets that are due behind these tokens, the next one first; None where one of theirs closes nothing."""
+    closing = []
+    for token in tokens:
+        if token.kind in CLOSING:
+            closing.append(CLOSING[token.kind])
+        elif token.kind in CLOSING.values() and (not closing or closing.pop() != token.kind):
+            return None
+    return closing[::-1]
+
+
+def completed(tokens, kinds):
+    """The tokens with these behind them. They stand apart, and there is no number or name among them, so they change nothing about what was given."""
+    apart = tokens[-1].end + 1
+    return tokens + [Token(kind, "", apart, apart) for kind in kinds]
+
+
+def begins(tokens):
+    """Whether some clause, of whichever length, begins with these tokens. Two ways to go on are enough; the open brackets then close, and the mark
+    follows. Behind a whole operand, `[` or `{`, nothing: priorities were settled where the operators stand. Where an operand is due, and behind a name
+    that stands for one, a variable in brackets: it is an operand, and behind a name its arguments, with which every name, an operator of any priority
+    too, is a term of priority 0. An end mark goes on with nothing: these tokens are the clause."""
+    if tokens[-1].kind == "end":
+        return reads(tokens)
+    closing = due(tokens)
+    return closing is not None and any(reads(completed(tokens, [*some, *closing, "end"])) for some in NEXT)
+
+
+def fault_of(tokens):
+    """The first token that cannot stand in a clause without a reading: no clause begins with the tokens up to it. A clause that begins with tokens
+    begins with fewer of them too, so their number is found by halving."""
+    standing, fallen = 0, len(tokens)
+    while fallen - standing > 1:
+        half = (standing + fallen) // 2
+        if begins(tokens[:half]):
+            standing = half
+        else:
+            fallen = half
+    return tokens[fallen - 1]
+
+
 def read_clause(text, at, room):
     """("clause", nodes, new offset) or ("refused", number, offset). The cursor is taken as valid."""
     tokens = tokens_of(text, at)
@@ -232,7 +290,7 @@ def read_clause(text, at, room):
     try:
         nodes = Reader(tokens).clause()
     except NoReading:
-        return "refused", NO_READING, first
+        return "refused", NO_READING, fault_of(tokens).start
     if room < 2 * len(nodes):
         return "refused", NO_ROOM, first
     return "clause", nodes, tokens[-1].end
