@@ -252,7 +252,7 @@ def due(tokens):
 
 
 def completed(tokens, kinds):
-    """The tokens with these behind them. They stand apart, and there is no number or name among them, so they change nothing about what was given."""
+    """The tokens with these behind them, apart, so that no span can matter."""
     apart = tokens[-1].end + 1
     return tokens + [Token(kind, "", apart, apart) for kind in kinds]
 
