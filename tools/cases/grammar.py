@@ -33,7 +33,7 @@ CLOSING = {"open": "close", "open_ct": "close", "open_list": "close_list", "open
 NEXT = ((), ("open_ct", "variable", "close"))
 
 SOLO = {"(": "open_ct", ")": "close", "[": "open_list", "]": "close_list", "{": "open_curly", "}": "close_curly", ",": "comma"}
-LAYOUT = re.compile(r"(?:[ \t\r\n]|%[^\n]*(?:\n|$)|/\*.*?\*/)*", re.S)
+LAYOUT = re.compile(r"(?:[ \t\r\n]|%[ -~\t\r]*(?:\n|$)|/\*[ -~\t\r\n]*?\*/)*")
 GRAPHIC = re.compile(r"[#$&*+\-./:<=>?@^~\\]+")
 WORD = re.compile(r"[A-Za-z0-9_]+")
 NUMBER = re.compile(r"0'(?:\\x[0-9a-fA-F]+\\|\\[0-7]+\\|\\[abfnrtv\\'\"`]|''|[ -&(-\[\]-~])|0x[0-9a-fA-F]+|0o[0-7]+|0b[01]+|[0-9]+(?:\.[0-9]+(?:[eE][+-]?[0-9]+)?)?")
@@ -59,14 +59,23 @@ def decoded(item):
         if found[0] == "''":
             return "'"
         if found[1] or found[2]:
-            return chr(int(found[1], 16) if found[1] else int(found[2], 8))
+            code = int(found[1], 16) if found[1] else int(found[2], 8)
+            if not 1 <= code <= 127:
+                raise NotMine
+            return chr(code)
         return "" if found[3] else dict(zip("abfnrtv", "\a\b\f\n\r\t\v")).get(found[4], found[4])
     return ESCAPE.sub(one, item[1:-1])
 
 
 def doubtful(spelling, behind):
     """A number that may be out of its limit, or that is set aside, or whose `0` may begin another form."""
-    return len(spelling) > 15 or "e" in spelling.lower() and "x" not in spelling or spelling.isdigit() and behind == "_" or spelling == "0" and behind in "'xob"
+    return (len(spelling) > 15 or "e" in spelling.lower() and "x" not in spelling or spelling.isdigit() and behind == "_"
+            or spelling == "0" and behind in "'xob" or spelling[:3] == "0'\\" and len(spelling) > 4)
+
+
+def known(behind):
+    """Whether there is a byte behind, and none that is foreign."""
+    return " " <= behind <= "~" or behind in ("\t", "\r", "\n")
 
 
 def next_token(text, at):
@@ -80,7 +89,7 @@ def next_token(text, at):
         return Token("open" if c == "(" and start > at else SOLO[c], c, start, start + 1)
     if c in "!;":
         return Token("name", c, start, start + 1)
-    if c == "|" and behind:
+    if c == "|" and known(behind):
         return Token("double_bar" if behind == "|" else "bar", c, start, start + 1 + (behind == "|"))
     for kind, rule in (("number", NUMBER), ("name", GRAPHIC), ("word", WORD), ("quoted", QUOTED)):
         found = rule.match(text, start)
@@ -89,7 +98,7 @@ def next_token(text, at):
     else:
         raise NotMine
     end, spelling = found.end(), found[0]
-    if end == len(text) or not (text[end] in "\t\r\n" or " " <= text[end] <= "~"):
+    if not known(text[end:end + 1]):
         raise NotMine
     if kind == "number" and doubtful(spelling, text[end]):
         raise NotMine

@@ -2,8 +2,6 @@
 It was written from document 02 and its settled points. A node is its kind, its arity and the bytes of its spelling; trees are built, not counted.
 A form is its version and its line field, which form 1 has not: 0 stands for it. A move takes an image apart and packs its nodes anew.
 `lines` is what the probe must answer to the letters of CALLS."""
-import re
-
 import grammar
 from probe import FILL, MOST_LENGTH, TREE_FILL, moved, refused_line
 
@@ -29,8 +27,6 @@ ARITIES = {
     grammar.EMPTY_LIST: (0, 0),
     grammar.EMPTY_CURLY: (0, 0),
 }
-# grammar.py passes over these in comments, where they are refusal 5
-FOREIGN = re.compile(rb"[^ -~\t\r\n]")
 # what the probe takes: the letters, the largest rooms, and the nodes of `k` and `K`
 CALLS = "pPukKmM"
 MOST_ROOM = {call: 1024 if call == "u" else 70000 for call in CALLS}
@@ -193,8 +189,6 @@ def valid(text, given):
 
 def reading_of(text, given):
     """The clause at a valid cursor as grammar.py reads it, ("clause", nodes, new offset) or ("refused", number, offset), and its tokens' spans."""
-    if FOREIGN.search(text):
-        raise grammar.NotMine
     source = text.decode("latin-1")
     answer = grammar.read_clause(source, given[0], 2 * grammar.MOST_TOKENS)
     return *answer, [(token.start, token.end) for token in grammar.tokens_of(source, given[0])]
