@@ -1,6 +1,6 @@
-"""Clauses that a script makes: each operator in each role, the limits of 1,024 tokens, deep and wide ones, rooms. Their answers are those of
+"""Clauses that a script makes: each operator in each role, the limits of 1,024 tokens, deep and wide ones, rooms, faults. Their answers are those of
 grammar.py, the plain reader of document 01; by-hand.txt holds the clauses whose answers a person wrote."""
-from grammar import INFIX_OPERATORS, MOST_TOKENS, PREFIX_OPERATORS, read_clause
+from grammar import INFIX_OPERATORS, MOST_TOKENS, NO_READING, PREFIX_OPERATORS, read_clause
 
 OPERATORS = sorted(set(INFIX_OPERATORS) | set(PREFIX_OPERATORS))
 # a room with a little more than the tree takes
@@ -49,6 +49,37 @@ def large_clauses():
     yield "% no token\n" * 200 + "/* none */" * 900 + "- " * 1022 + "a."
 
 
+def operator_faults():
+    """Every name of the table at a fault or before it: no infix operator, too high a priority, no operand, a place that does not end so. A few read."""
+    for name in OPERATORS:
+        yield from (f"f(a,{name} b).", f"[a|b {name} c,d].", f"{{a {name} }}.", f"({name} |a).", f"{{{name} ,a}}.", f"X {name} ).", f"{name}().")
+        yield from (f"{name} {name} {name} .", f"a {name} {name} {name} b.", f"- {name} b c.", f"a ** {name} b.", f"a = b {name} c = d {name} .")
+        yield f"a :- b {name} c :- d."
+
+
+def long_faults():
+    """As many tokens as a clause may have, and one fewer: the fault at the mark, before it, in the middle, at the start."""
+    for n in (MOST_TOKENS - 2, MOST_TOKENS - 1):
+        half = n // 2
+        yield from ("(" * n + ".", "[" * n + ".", "{" * n + ".", "f(" * half + "(" * (n % 2) + ".", "[a|" * (n // 3) + "[" * (n % 3) + ".")
+        yield from ("- " * n + ".", "\\+ " * n + ".", "a , " * half + ".", "a - " * half + ".", "a=(" * (n // 3) + "[" * (n % 3) + ".")
+        yield from ("(" * (n - 1) + ").", "[" * (n - 2) + "a).", "{" * (half - 1) + "a" + "}" * half + ".", "f(" + "a," * (half - 2) + ").")
+        yield from ("- " * (n - 1) + ").", "- " * (n - 2) + ":- a.", "a" + " - a" * (half - 1) + " b.", "a" + " ^ a" * (half - 3) + " ** a ** a.")
+        yield from ("[" + "- , " * (half - 2) + "|a].", ":- " * n + ".", "a" + " = a" * half + ".", "a " * n + ".", ")" * n + ".")
+
+
+def deep_faults():
+    """Faults in brackets of every kind, and brackets that do not match."""
+    for depth in (1, 2, 20, 110):
+        for inner in ("a b", "", "-,a", "a :- b :- c", "= a", "a|b", "f(:- a)", "[a|b,c]", "a = - "):
+            yield "f([{(" * depth + inner + ")}])" * depth + "."
+        yield from ("f([{(" * depth + "a" + ")}])" * (depth - 1) + end + "." for end in (")}]", ")})]", ")}]))", ")}]}", ")}])a", ")}](b)"))
+
+
+def no_readings(texts):
+    return (text for text in texts if read_clause(text, 0, 0)[:2] == ("refused", NO_READING))
+
+
 def cases():
     """CALL, ROOM, cursor and text; the answers follow by `answers`."""
     for text in (*operator_clauses(), *pair_clauses()):
@@ -63,6 +94,10 @@ def cases():
             yield "c", room, (0, 0, 0), text
             yield "c", room, (1, 0, 1), text
             yield "c", room, (1, 1, 1), text
+    for text in no_readings((*operator_faults(), *long_faults(), *deep_faults())):
+        yield "c", SPARE, (0, 0, 0), text
+        if text.startswith("f([{(") and len(text) < 40:
+            yield "c", SPARE, (2, 0, 2), "a.\n/* b */\n" + text
 
 
 def room_of(text, more):
