@@ -18,9 +18,10 @@ use Rattle.reader.specs.Token.{Token, terminals}
 use Rattle.reader.specs.Ops.{operators}
 use Rattle.reader.specs.Tree.{Tree, packed, numbers}
 use Rattle.reader.specs.Grammar.{Reads}
-use Rattle.reader.specs.Machine.{Out, State, want, pend, begun, have, dead, done, laid}
-use Rattle.reader.specs.Clause.{Gathered, whole, stopped, tooMany, clauseTokens, firstOffset, Outcome, invalid, token, noMark, noReading, noRoom, read}
-use Rattle.reader.specs.Gather.{Left, leaves, nodesOf, machineAfter, marksOf, byNodes, byTokens, clauseBy}
+use Rattle.reader.specs.Machine.{Out, State, want, pend, begun, have, dead, done, laid, start}
+use Rattle.reader.specs.Clause.{Gathered, whole, stopped, tooMany, clauseTokens, Outcome, invalid, token, noMark, noReading, noRoom, read}
+use Rattle.reader.specs.Gather.{Left, leaves, nodesOf, machineAfter, latestFrom, came, written, byNodes, byTokens, answered, leftBy, clauseBy}
+use Rattle.reader.specs.declared.clause.Verdict.{Verdict}
 use Rattle.reader.specs.declared.clause.ClauseAnswer.{ClauseAnswer}
 use Rattle.reader.specs.declared.clause.ClauseAnswer.the-variants.{Read, Refused}
 use Rattle.reader.proofs.Answer.{laid-length}
@@ -75,7 +76,8 @@ module _ (s : List ℕ) (c : Cursor) (d : List ℕ) where
     module _ (ts : List Token) (e : Cursor) (g : clauseTokens s c ≡ whole ts e) where
       -- ---- the machine's outcome is permitted
       fits : (t : Tree) → Reads operators ts t → (b : Bool) → leb (2 * length (push packed t [])) (length d) ≡ b
-          → Allowed (cond b (leaves (Read (length (push packed t [])) e) (sets d 0 (laid (push packed t [])))) (leaves (Refused (fault NoRoom (firstOffset s c)) c) d))
+          → Allowed (leftBy s c (cond b (came (Verdict.Read (length (push packed t [])) e) (sets d 0 (laid (push packed t [])))) (came (Verdict.AtFirst NoRoom) d)))
+      unfolding leftBy answered
       fits t r true l =
           let m = numbers-count ts t in
           let h = leb-true (2 * length (push packed t [])) (length d) l in
@@ -85,8 +87,8 @@ module _ (s : List ℕ) (c : Cursor) (d : List ℕ) where
           let h = leb-false (2 * length (push packed t [])) (length d) l in
           noRoom v g r (omega arith)
 
-      nodes : (o : Option Out) → nodesOf (machineAfter ts) ≡ o → Allowed (byNodes (marksOf s c ts) c d e o)
-      unfolding byNodes
+      nodes : (o : Option Out) → nodesOf (machineAfter ts) ≡ o → Allowed (leftBy s c (byNodes d (latestFrom start 0 0 ts) e o))
+      unfolding byNodes written leftBy answered
       nodes none q =
           let n : (t : Tree) → Reads operators ts t → ⊥ = λ t r. let p = reading-nodes ts r in let z : _≡_ {A = ℕ} 0 1 = cc in omega arith in
           let f = first-fault s c ts e g n in
@@ -95,8 +97,8 @@ module _ (s : List ℕ) (c : Cursor) (d : List ℕ) where
           let r = nodes-reading ts out q in
           rw (sym (r .2)) (fits (r .0) (r .1) (leb (2 * length (push packed (r .0) [])) (length d)) refl)
 
-    tokens : (x : Gathered) → clauseTokens s c ≡ x → Allowed (byTokens s c d x)
-    unfolding byTokens
+    tokens : (x : Gathered) → clauseTokens s c ≡ x → Allowed (leftBy s c (byTokens d x))
+    unfolding byTokens leftBy answered
     tokens (stopped w) g = token v g
     tokens tooMany g = noMark v g
     tokens (whole ts e) g = nodes ts e g (nodesOf (machineAfter ts)) refl
@@ -105,7 +107,7 @@ module _ (s : List ℕ) (c : Cursor) (d : List ℕ) where
   unfolding clauseBy
   permitted-one = go (valid (length s) c) refl
     where
-      go : (b : Bool) → valid (length s) c ≡ b → Allowed (cond b (byTokens s c d (clauseTokens s c)) (leaves (Refused notValid c) d))
+      go : (b : Bool) → valid (length s) c ≡ b → Allowed (cond b (leftBy s c (byTokens d (clauseTokens s c))) (leaves (Refused notValid c) d))
       go true v = tokens v (clauseTokens s c) refl
       go false v = invalid v
 
@@ -122,7 +124,7 @@ module _ (s : List ℕ) (c : Cursor) (d : List ℕ) where
 
   -- ---- and nothing else is
   pub only : {r : ClauseAnswer} {d′ : List ℕ} → Outcome s c d r d′ → leaves r d′ ≡ clauseBy s c d
-  unfolding clauseBy byTokens byNodes
+  unfolding clauseBy byTokens byNodes written leftBy answered
   only (invalid v) = cc
   only (token v g) = cc
   only (noMark v g) = cc

@@ -19,8 +19,7 @@ use Rattle.reader.specs.Machine.{State, none-left}
 use Rattle.reader.specs.Weight.{sizes, weight}
 use Rattle.reader.specs.Layout.{framesOf, outOf, stateOf, stopTakes, takes, most, Held, Ready}
 use Rattle.reader.specs.Clause.{tokenIn, isEnd}
-use Rattle.reader.specs.Gather.{seen, sightFrom, finished, halted, marked, runOn, clauseRun}
-use Rattle.reader.specs.declared.clause.Marks.{Marks}
+use Rattle.reader.specs.Gather.{seen, sightFrom, finished, halted, latest, runOn, clauseRun}
 use Rattle.reader.specs.declared.machine.Mode.{Mode}
 use Rattle.reader.specs.declared.machine.Mode.the-variants.{Want, Pend, Begun, Have, Dead, Done}
 use Rattle.reader.specs.declared.machine.Sight as code
@@ -104,7 +103,7 @@ takes-one code.Sight.Brace = omega arith
 takes-one (code.Sight.Stop x) = stop-takes x
 
 -- ---- the run, by the token that was read
-module _ (s : List ℕ) (c : Cursor) (n i : ℕ) (f : Marks) (z : State) where
+module _ (s : List ℕ) (c : Cursor) (n i f : ℕ) (z : State) where
   pub run-stop : (w : Fault) → readLexeme false s (c .offset) ≡ refused w → clauseRun (suc n) i f z s c ≡ halted w
   unfolding clauseRun runOn
   run-stop w e = ap (λ (x : Lexeme). runOn s c i f z x (λ g y k. clauseRun n (i + 1) g y s k)) e
@@ -118,14 +117,14 @@ module _ (s : List ℕ) (c : Cursor) (n i : ℕ) (f : Marks) (z : State) where
     stepped : M.step packed z i (seen (tokenIn s t (d .offset) (p .text))) ≡ M.step packed z i (sightFrom s c)
     stepped = ap (λ (x : Token). M.step packed z i (seen x)) (sym (token-known s c t d p))
 
-    pub run-last : isEnd (t .kind) ≡ true → clauseRun (suc n) i f z s c ≡ finished (marked i z f t) (M.step packed z i (sightFrom s c)) d
+    pub run-last : isEnd (t .kind) ≡ true → clauseRun (suc n) i f z s c ≡ finished (latest z f (t .start)) (M.step packed z i (sightFrom s c)) d
     unfolding runOn
     run-last h =
         by-lexeme
-        ∙ rw h (ap (λ (y : State). finished (marked i z f t) y (moveTo s c (d .offset))) stepped ∙ ap (finished (marked i z f t) (M.step packed z i (sightFrom s c))) (sym (p .next)))
+        ∙ rw h (ap (λ (y : State). finished (latest z f (t .start)) y (moveTo s c (d .offset))) stepped ∙ ap (finished (latest z f (t .start)) (M.step packed z i (sightFrom s c))) (sym (p .next)))
 
-    pub run-more : isEnd (t .kind) ≡ false → clauseRun (suc n) i f z s c ≡ clauseRun n (i + 1) (marked i z f t) (M.step packed z i (sightFrom s c)) s d
+    pub run-more : isEnd (t .kind) ≡ false → clauseRun (suc n) i f z s c ≡ clauseRun n (i + 1) (latest z f (t .start)) (M.step packed z i (sightFrom s c)) s d
     unfolding runOn
     run-more h =
         by-lexeme
-        ∙ rw h (ap (λ (y : State). clauseRun n (i + 1) (marked i z f t) y s (moveTo s c (d .offset))) stepped ∙ ap (clauseRun n (i + 1) (marked i z f t) (M.step packed z i (sightFrom s c)) s) (sym (p .next)))
+        ∙ rw h (ap (λ (y : State). clauseRun n (i + 1) (latest z f (t .start)) y s (moveTo s c (d .offset))) stepped ∙ ap (clauseRun n (i + 1) (latest z f (t .start)) (M.step packed z i (sightFrom s c)) s) (sym (p .next)))

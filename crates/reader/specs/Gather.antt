@@ -4,7 +4,7 @@ use mathlib.Core.Path.{_≡_}
 use mathlib.Core.Bool.{Bool, true, false, cond}
 use mathlib.Core.Option.{Option, none, some}
 use mathlib.Core.List.{List, [], _∷_}
-use lib.Dec.{eqb, leb}
+use lib.Dec.{leb}
 use lib.ListN.{length, getD}
 use lib.Seq.{sets}
 use Rattle.lexer.specs.Chars.{singleQuote}
@@ -27,8 +27,8 @@ use Rattle.reader.specs.Clause.{mostTokens, Gathered, whole, stopped, to
 use Rattle.reader.specs.Layout.{stateOf}
 use Rattle.reader.specs.declared.machine.Mode.{Mode}
 use Rattle.reader.specs.declared.machine.Mode.the-variants.{Want, Pend, Begun, Have, Dead, Done}
-use Rattle.reader.specs.declared.clause.Marks.{Marks}
 use Rattle.reader.specs.declared.clause.Machined.{Machined}
+use Rattle.reader.specs.declared.clause.Verdict.{Verdict}
 use Rattle.reader.specs.declared.clause.ClauseAnswer.{ClauseAnswer}
 use Rattle.reader.specs.declared.clause.ClauseAnswer.the-variants.{Read, Refused}
 
@@ -73,19 +73,18 @@ pub record QuotedAt (s : List ℕ) (at : ℕ) : Type 0 where
 
 -- ---- the machine over the tokens of a clause
 
--- behind the end mark, with the clause's marks and the machine there; or a token's refusal; or behind so many tokens without a mark
+-- behind the end mark, with where the last token starts that the machine took alive, and the machine there; or a token's refusal; or behind so many tokens
+-- without a mark
 pub data Result : Type 0 where
-  finished : Marks → State → Cursor → Result
+  finished : ℕ → State → Cursor → Result
   halted : Fault → Result
-  paused : Marks → State → Cursor → Result
+  paused : ℕ → State → Cursor → Result
 
--- where the clause's first token starts, and where the last one starts that the machine took alive; by the token i, which starts at `at`
-unfoldable pub marksWith : ℕ → Bool → Marks → ℕ → Marks
-marksWith i gone f at = record { first = cond (eqb i 0) at (f .first); latest = cond gone (f .latest) at }
+-- where the last token starts that the machine took alive, when it has taken one at z that starts at `at`
+abbrev pub latest : State → ℕ → ℕ → ℕ
+latest z a at = cond (isDead z) a at
 
-abbrev pub marked : ℕ → State → Marks → lexer.Token → Marks
-marked i z f t = marksWith i (isDead z) f (t .start)
-
+-- the same of what the code keeps
 abbrev pub deadMode : Mode → Bool
 deadMode (Want p) = false
 deadMode (Pend p q) = false
@@ -95,23 +94,23 @@ deadMode Dead = true
 deadMode (Done n) = false
 
 -- the machine at z takes the token i, which was read from c, and goes on where it is no end mark
-unfoldable pub runOn : List ℕ → Cursor → ℕ → Marks → State → Lexeme → (Marks → State → Cursor → Result) → Result
-runOn s c i f z (refused w) next = halted w
-runOn s c i f z (lexeme t e x) next =
-    cond (isEnd (t .kind)) (finished (marked i z f t) (M.step packed z i (seen (tokenIn s t e x))) (moveTo s c e))
-    (next (marked i z f t) (M.step packed z i (seen (tokenIn s t e x))) (moveTo s c e))
+unfoldable pub runOn : List ℕ → Cursor → ℕ → ℕ → State → Lexeme → (ℕ → State → Cursor → Result) → Result
+runOn s c i a z (refused w) next = halted w
+runOn s c i a z (lexeme t e x) next =
+    cond (isEnd (t .kind)) (finished (latest z a (t .start)) (M.step packed z i (seen (tokenIn s t e x))) (moveTo s c e))
+    (next (latest z a (t .start)) (M.step packed z i (seen (tokenIn s t e x))) (moveTo s c e))
 
 -- n tokens at most, from the token i on
-unfoldable pub clauseRun : ℕ → ℕ → Marks → State → List ℕ → Cursor → Result
-clauseRun zero i f z s c = paused f z c
-clauseRun (suc n) i f z s c = runOn s c i f z (readLexeme false s (c .offset)) (λ g y d. clauseRun n (i + 1) g y s d)
+unfoldable pub clauseRun : ℕ → ℕ → ℕ → State → List ℕ → Cursor → Result
+clauseRun zero i a z s c = paused a z c
+clauseRun (suc n) i a z s c = runOn s c i a z (readLexeme false s (c .offset)) (λ b y d. clauseRun n (i + 1) b y s d)
 
 -- ---- what the code keeps of it
 
 unfoldable pub resultOf : Machined → List ℕ → List ℕ → Result
-resultOf (Machined.Whole f m d) st ns = finished f (stateOf m st ns) d
+resultOf (Machined.Whole a m d) st ns = finished a (stateOf m st ns) d
 resultOf (Machined.Stopped w) st ns = halted w
-resultOf (Machined.Paused f m d) st ns = paused f (stateOf m st ns) d
+resultOf (Machined.Paused a m d) st ns = paused a (stateOf m st ns) d
 
 -- ---- what the code asks
 
@@ -128,10 +127,11 @@ pub record Taking (s : List ℕ) (c : Cursor) (i to : ℕ) (m : Mode) (st ns : L
 abbrev pub fewTokens : ℕ
 fewTokens = 64
 
-pub record Beginning (s : List ℕ) (c : Cursor) (st ns : List ℕ) : Type 0 where
+pub record Beginning (s : List ℕ) (c : Cursor) (to : ℕ) (st ns : List ℕ) : Type 0 where
   pub valid-cursor : valid (length s) c ≡ true
-  pub frames : fewTokens < length st
-  pub nodes : fewTokens < length ns
+  pub few : to ≤ mostTokens
+  pub frames : to < length st
+  pub nodes : to < length ns
 
 -- the words of one slice stand at the front of another
 pub record Copied (few all : List ℕ) : Type 0 where
@@ -151,9 +151,9 @@ pub record GoingOn (s : List ℕ) (d : Cursor) (m : Mode) (st ns fs os : List �
   pub nodes : mostTokens < length os
 
 -- ---- the whole call
--- an answer, and what is left in the tree slice
-pub data Left : Type 0 where
-  leaves : ClauseAnswer → List ℕ → Left
+-- what a clause comes to, and what is left in the tree slice
+pub data Came : Type 0 where
+  came : Verdict → List ℕ → Came
 
 -- the nodes of a machine that is done
 unfoldable pub nodesOf : State → Option Out
@@ -168,37 +168,48 @@ nodesOf (done out) = some out
 abbrev pub machineAfter : List Token → State
 machineAfter ts = run packed operators start (terminals 0 ts)
 
--- where the machine's last token starts that it took alive, from the token i on: of a clause that is refused, the first token that cannot stand
+-- where the last token starts that a machine at z takes alive, of the tokens from i on; of a clause that is refused, the first token that cannot stand
 unfoldable pub latestFrom : State → ℕ → ℕ → List Token → ℕ
 latestFrom z i a [] = a
-latestFrom z i a (t ∷ ts) = latestFrom (M.step packed z i (seen t)) (i + 1) (cond (isDead z) a (t .start)) ts
+latestFrom z i a (t ∷ ts) = latestFrom (M.step packed z i (seen t)) (i + 1) (latest z a (t .start)) ts
 
-abbrev pub noMarks : Marks
-noMarks = record { first = 0; latest = 0 }
+module _ (d : List ℕ) where
+  -- the nodes are written, or there is no room for them
+  unfoldable pub written : Cursor → Out → Came
+  written e out = cond (leb (2 * length out) (length d)) (came (Verdict.Read (length out) e) (sets d 0 (laid out))) (came (Verdict.AtFirst NoRoom) d)
 
-abbrev pub marksOf : List ℕ → Cursor → List Token → Marks
-marksOf s c ts = record { first = firstOffset s c; latest = latestFrom start 0 0 ts }
+  -- by the nodes of a machine behind the end mark, which took the token at `at` alive last
+  unfoldable pub byNodes : ℕ → Cursor → Option Out → Came
+  byNodes at e none = came (Verdict.Refused (fault NoReading at)) d
+  byNodes at e (some out) = written e out
 
--- by the nodes of a machine behind the end mark
-unfoldable pub byNodes : Marks → Cursor → List ℕ → Cursor → Option Out → Left
-byNodes f c d e none = leaves (Refused (fault NoReading (f .latest)) c) d
-byNodes f c d e (some out) =
-    cond (leb (2 * length out) (length d)) (leaves (Read (length out) e) (sets d 0 (laid out))) (leaves (Refused (fault NoRoom (f .first)) c) d)
+  unfoldable pub byTokens : Gathered → Came
+  byTokens (stopped w) = came (Verdict.Refused w) d
+  byTokens tooMany = came (Verdict.AtFirst TooManyTokens) d
+  byTokens (whole ts e) = byNodes (latestFrom start 0 0 ts) e (nodesOf (machineAfter ts))
 
-module _ (s : List ℕ) (c : Cursor) (d : List ℕ) where
-  unfoldable pub byTokens : Gathered → Left
-  byTokens (stopped w) = leaves (Refused w c) d
-  byTokens tooMany = leaves (Refused (fault TooManyTokens (firstOffset s c)) c) d
-  byTokens (whole ts e) = byNodes (marksOf s c ts) c d e (nodesOf (machineAfter ts))
+  -- the same of the run over the tokens
+  unfoldable pub byResult : Result → Came
+  byResult (halted w) = came (Verdict.Refused w) d
+  byResult (paused a z e) = came (Verdict.AtFirst TooManyTokens) d
+  byResult (finished a z e) = byNodes a e (nodesOf z)
 
-  unfoldable pub clauseBy : Left
-  clauseBy = cond (valid (length s) c) (byTokens (clauseTokens s c)) (leaves (Refused notValid c) d)
+-- an answer, and what is left in the tree slice
+pub data Left : Type 0 where
+  leaves : ClauseAnswer → List ℕ → Left
 
--- the same of the run over the tokens
-unfoldable pub byResult : Cursor → List ℕ → Result → Left
-byResult c d (halted w) = leaves (Refused w c) d
-byResult c d (paused f z e) = leaves (Refused (fault TooManyTokens (f .first)) c) d
-byResult c d (finished f z e) = byNodes f c d e (nodesOf z)
+module _ (s : List ℕ) (c : Cursor) where
+  -- the answer: the caller's cursor comes back, and a refusal at the first token has its offset
+  unfoldable pub answered : Verdict → ClauseAnswer
+  answered (Verdict.Read n e) = Read n e
+  answered (Verdict.Refused w) = Refused w c
+  answered (Verdict.AtFirst r) = Refused (fault r (firstOffset s c)) c
+
+  unfoldable pub leftBy : Came → Left
+  leftBy (came v d) = leaves (answered v) d
+
+  unfoldable pub clauseBy : List ℕ → Left
+  clauseBy d = cond (valid (length s) c) (leftBy (byTokens d (clauseTokens s c))) (leaves (Refused notValid c) d)
 
 -- ---- what these functions ask
 

@@ -20,18 +20,18 @@ use lexer::next_token;
 use lexer::quoted_text;
 ghost use mathlib.Core.Path.{_≡_};
 ghost use mathlib.Core.Bool.{true, cond};
-ghost use lib.Dec.{eqb};
-ghost use mathlib.Core.Option.{some};
 ghost use Prim.Native.Nat.{_-_, _≤_};
 ghost use lib.ListN.{length};
 ghost use Rattle.lexer.specs.Cursor.{valid};
 ghost use Rattle.lexer.specs.Refusal.{fault};
+ghost use Rattle.lexer.specs.declared.refusal.Refusal.the-variants.{NoReading};
 ghost use Rattle.reader.specs.Ops.{operators};
 ghost use Rattle.reader.specs.Roles.{rolesOf};
 ghost use Rattle.reader.specs.Machine as M;
 ghost use Rattle.reader.specs.Layout.{sightOf, stateOf, outOf};
 ghost use Rattle.reader.specs.Clause.{mostTokens, isEnd, clauseTokens, firstOffset, Outcome};
-ghost use Rattle.reader.specs.Gather.{fewTokens, tokenFrom, sightFrom, deadMode, marksWith, noMarks, clauseRun, resultOf, leaves, nodesOf, byNodes, byTokens, byResult, quotedBytes, ReadFrom, NameFrom, QuotedAt, Taking, Beginning, Copied, GoingOn, Longer, Finished, Finishing};
+ghost use Rattle.reader.specs.Gather.{fewTokens, tokenFrom, sightFrom, deadMode, clauseRun, resultOf, came, nodesOf, written, byNodes, byTokens, byResult, leaves, leftBy, quotedBytes, ReadFrom, NameFrom, QuotedAt, Taking, Beginning, Copied, GoingOn, Longer, Finished, Finishing};
+ghost use Rattle.reader.specs.declared.clause.Verdict.{Verdict};
 ghost use Rattle.reader.specs.declared.clause.ClauseAnswer.{ClauseAnswer};
 
 pub enum ClauseAnswer {
@@ -129,68 +129,31 @@ pub(crate) fn is_end(kind: Kind) -> bool
     }
 }
 
-// Where the clause's first token starts, for refusals 9 and 10; and where the last token starts that the machine took alive. Of a clause that is refused
-// with 11 that is the first token that cannot stand.
-pub struct Marks {
-    pub first: usize,
-    pub latest: usize,
-}
-
-const NO_MARKS: Marks = Marks {
-    first: 0,
-    latest: 0,
-};
-
-fn is_dead(mode: Mode) -> bool
-    ensures { λ r. ⌜ r ≡ deadMode mode ⌝ }
+// Where the last token starts that the machine took alive: this one, at an offset, or, where it is dead already, the one before. Of a clause that is refused
+// with 11 it is the first token that cannot stand.
+fn last_alive(mode: Mode, latest: usize, at: usize) -> usize
+    ensures { λ r. ⌜ r ≡ cond (deadMode mode) latest at ⌝ }
 {
     match mode {
-        Mode::Want(_) => false,
-        Mode::Pend(_, _) => false,
-        Mode::Begun(_, _, _) => false,
-        Mode::Have(_) => false,
-        Mode::Dead => true,
-        Mode::Done(_) => false,
+        Mode::Want(_) => at,
+        Mode::Pend(_, _) => at,
+        Mode::Begun(_, _, _) => at,
+        Mode::Have(_) => at,
+        Mode::Dead => latest,
+        Mode::Done(_) => at,
     }
 }
 
-fn first_mark(index: u16, marks: Marks, at: usize) -> usize
-    ensures { λ r. ⌜ r ≡ cond (eqb index 0) at (marks .first) ⌝ }
-{
-    if index == 0 {
-        return at;
-    }
-    marks.first
-}
-
-fn latest_mark(mode: Mode, marks: Marks, at: usize) -> usize
-    ensures { λ r. ⌜ r ≡ cond (deadMode mode) (marks .latest) at ⌝ }
-{
-    if is_dead(mode) {
-        return marks.latest;
-    }
-    at
-}
-
-// The marks with the token of this index, which starts at `at` and is put to the machine.
-fn mark_token(index: u16, mode: Mode, marks: Marks, at: usize) -> Marks
-    ensures { λ r. ⌜ r ≡ marksWith index (deadMode mode) marks at ⌝ }
-{
-    let first = first_mark(index, marks, at);
-    let latest = latest_mark(mode, marks, at);
-    Marks { first, latest }
-}
-
-// The machine behind the end mark of a clause, or behind so many tokens of it, with the clause's marks.
+// The machine behind the end mark of a clause, or behind so many tokens of it, with the last token that it took alive.
 pub enum Machined {
     Whole {
-        marks: Marks,
+        latest: usize,
         mode: Mode,
         next: Cursor,
     },
     Stopped(Fault),
     Paused {
-        marks: Marks,
+        latest: usize,
         mode: Mode,
         next: Cursor,
     },
@@ -203,28 +166,28 @@ fn take_tokens(
     cursor: Cursor,
     from: u16,
     to: u16,
-    began: Marks,
+    taken: usize,
     before: Mode,
     frames: &mut [u64],
     nodes: &mut [u32],
 ) -> Machined
     requires { ⌜ Taking (now text) cursor from to before (now frames) (now nodes) ⌝ }
-    ensures { λ r. ⌜ resultOf r (now (frames .exit)) (now (nodes .exit)) ≡ clauseRun (to - from) from began (stateOf before (now (frames .entry)) (now (nodes .entry))) (now (text .entry)) cursor ⌝ }
+    ensures { λ r. ⌜ resultOf r (now (frames .exit)) (now (nodes .exit)) ≡ clauseRun (to - from) from taken (stateOf before (now (frames .entry)) (now (nodes .entry))) (now (text .entry)) cursor ⌝ }
 {
     let mut mode = before;
     let mut c = cursor;
     let mut index = from;
-    let mut marks = began;
+    let mut latest = taken;
     while index < to {
         match next_token(text, c) {
             Answer::Refused { fault, cursor: _ } => return Machined::Stopped(fault),
             Answer::Read { token, next } => {
-                marks = mark_token(index, mode, marks, token.start);
+                latest = last_alive(mode, latest, token.start);
                 let sight = see_token(text, c, token, next);
                 mode = step(mode, index, sight, frames, nodes);
                 let kind = token.kind;
                 if is_end(kind) {
-                    return Machined::Whole { marks, mode, next };
+                    return Machined::Whole { latest, mode, next };
                 }
                 c = next;
                 index += 1;
@@ -232,92 +195,103 @@ fn take_tokens(
         }
     }
     Machined::Paused {
-        marks,
+        latest,
         mode,
         next: c,
     }
 }
 
-// The offset of the first token.
+// The tokens from the first on, up to an index.
+fn first_tokens(
+    text: &[u8],
+    cursor: Cursor,
+    to: u16,
+    frames: &mut [u64],
+    nodes: &mut [u32],
+) -> Machined
+    requires { ⌜ Beginning (now text) cursor to (now frames) (now nodes) ⌝ }
+    ensures { λ r. ⌜ resultOf r (now (frames .exit)) (now (nodes .exit)) ≡ clauseRun to 0 0 M.start (now (text .entry)) cursor ⌝ }
+{
+    let mode = start(frames, nodes);
+    take_tokens(text, cursor, 0, to, 0, mode, frames, nodes)
+}
+
+// The offset of the first token. It goes by the machine's loop, which takes this token alive: a second place that calls the token call would keep the compiler
+// from laying that call into the loop.
 pub(crate) fn first_offset(text: &[u8], cursor: Cursor) -> usize
     requires { ⌜ valid (length (now text)) cursor ≡ true ⌝ }
     ensures { λ r. ⌜ r ≡ firstOffset (now (text .entry)) cursor ⌝ }
 {
-    match next_token(text, cursor) {
-        Answer::Refused {
-            fault: _,
-            cursor: _,
-        } => 0,
-        Answer::Read { token, next: _ } => token.start,
+    let mut frames = [0u64; 2];
+    let mut nodes = [0u32; 2];
+    match first_tokens(text, cursor, 1, &mut frames, &mut nodes) {
+        Machined::Stopped(_) => 0,
+        Machined::Paused {
+            latest,
+            mode: _,
+            next: _,
+        } => latest,
+        Machined::Whole {
+            latest,
+            mode: _,
+            next: _,
+        } => latest,
     }
 }
 
-// A refusal of the whole clause, which points at a token.
-fn clause_refused(at: usize, cursor: Cursor, refusal: Refusal) -> ClauseAnswer
-    ensures { λ r. ⌜ r ≡ ClauseAnswer.Refused (fault refusal at) cursor ⌝ }
+// What a clause comes to. AtFirst: a refusal that points at its first token.
+pub enum Verdict {
+    Read { nodes: usize, next: Cursor },
+    Refused(Fault),
+    AtFirst(Refusal),
+}
+
+// No clause begins with the tokens up to the one at this offset.
+fn no_reading(at: usize) -> Verdict
+    ensures { λ r. ⌜ r ≡ Verdict.Refused (fault NoReading at) ⌝ }
 {
-    ClauseAnswer::Refused {
-        fault: Fault {
-            refusal,
-            offset: at,
-        },
-        cursor,
-    }
+    Verdict::Refused(Fault {
+        refusal: Refusal::NoReading,
+        offset: at,
+    })
 }
 
 // The machine stands behind the end mark, with so many nodes out.
-fn write_clause(
-    marks: Marks,
-    cursor: Cursor,
-    count: usize,
-    next: Cursor,
-    nodes: &[u32],
-    tree: &mut [u16],
-) -> ClauseAnswer
+fn write_clause(count: usize, next: Cursor, nodes: &[u32], tree: &mut [u16]) -> Verdict
     requires { ⌜ Finished count (now nodes) ⌝ }
-    ensures { λ r. ⌜ leaves r (now (tree .exit)) ≡ byNodes marks cursor (now (tree .entry)) next (some (outOf (now (nodes .entry)) count)) ⌝ }
+    ensures { λ r. ⌜ came r (now (tree .exit)) ≡ written (now (tree .entry)) next (outOf (now (nodes .entry)) count) ⌝ }
 {
     if tree.len() < 2 * count {
-        return clause_refused(marks.first, cursor, Refusal::NoRoom);
+        return Verdict::AtFirst(Refusal::NoRoom);
     }
     put_tree(count, nodes, tree);
-    ClauseAnswer::Read { nodes: count, next }
+    Verdict::Read { nodes: count, next }
 }
 
 // What the machine behind the end mark says.
 fn finish_clause(
-    marks: Marks,
-    cursor: Cursor,
+    latest: usize,
     mode: Mode,
     next: Cursor,
     frames: &[u64],
     nodes: &[u32],
     tree: &mut [u16],
-) -> ClauseAnswer
+) -> Verdict
     requires { ⌜ Finishing mode (now frames) (now nodes) ⌝ }
-    ensures { λ r. ⌜ leaves r (now (tree .exit)) ≡ byNodes marks cursor (now (tree .entry)) next (nodesOf (stateOf mode (now (frames .entry)) (now (nodes .entry)))) ⌝ }
+    ensures { λ r. ⌜ came r (now (tree .exit)) ≡ byNodes (now (tree .entry)) latest next (nodesOf (stateOf mode (now (frames .entry)) (now (nodes .entry)))) ⌝ }
 {
     match mode {
-        Mode::Done(count) => write_clause(marks, cursor, count, next, nodes, tree),
-        Mode::Want(_) => clause_refused(marks.latest, cursor, Refusal::NoReading),
-        Mode::Pend(_, _) => clause_refused(marks.latest, cursor, Refusal::NoReading),
-        Mode::Begun(_, _, _) => clause_refused(marks.latest, cursor, Refusal::NoReading),
-        Mode::Have(_) => clause_refused(marks.latest, cursor, Refusal::NoReading),
-        Mode::Dead => clause_refused(marks.latest, cursor, Refusal::NoReading),
+        Mode::Done(count) => write_clause(count, next, nodes, tree),
+        Mode::Want(_) => no_reading(latest),
+        Mode::Pend(_, _) => no_reading(latest),
+        Mode::Begun(_, _, _) => no_reading(latest),
+        Mode::Have(_) => no_reading(latest),
+        Mode::Dead => no_reading(latest),
     }
 }
 
 // So many tokens are taken in short arrays first, the fast path: to fill long ones with zeros takes as long as to read five tokens.
 const FEW: u16 = 64;
-
-// The tokens from the first on.
-fn first_tokens(text: &[u8], cursor: Cursor, frames: &mut [u64], nodes: &mut [u32]) -> Machined
-    requires { ⌜ Beginning (now text) cursor (now frames) (now nodes) ⌝ }
-    ensures { λ r. ⌜ resultOf r (now (frames .exit)) (now (nodes .exit)) ≡ clauseRun fewTokens 0 noMarks M.start (now (text .entry)) cursor ⌝ }
-{
-    let mode = start(frames, nodes);
-    take_tokens(text, cursor, 0, FEW, NO_MARKS, mode, frames, nodes)
-}
 
 // The short array's words stand at the front of the long one.
 fn copy_frames(few: &[u64], frames: &mut [u64])
@@ -349,7 +323,7 @@ const MOST: u16 = 1024;
 fn more_tokens(
     text: &[u8],
     c: Cursor,
-    marks: Marks,
+    latest: usize,
     mode: Mode,
     held: &[u64],
     out: &[u32],
@@ -357,59 +331,80 @@ fn more_tokens(
     nodes: &mut [u32],
 ) -> Machined
     requires { ⌜ GoingOn (now text) c mode (now held) (now out) (now frames) (now nodes) ⌝ }
-    ensures { λ r. ⌜ resultOf r (now (frames .exit)) (now (nodes .exit)) ≡ clauseRun (mostTokens - fewTokens) fewTokens marks (stateOf mode (now (held .entry)) (now (out .entry))) (now (text .entry)) c ⌝ }
+    ensures { λ r. ⌜ resultOf r (now (frames .exit)) (now (nodes .exit)) ≡ clauseRun (mostTokens - fewTokens) fewTokens latest (stateOf mode (now (held .entry)) (now (out .entry))) (now (text .entry)) c ⌝ }
 {
     copy_frames(held, frames);
     copy_nodes(out, nodes);
-    take_tokens(text, c, FEW, MOST, marks, mode, frames, nodes)
+    take_tokens(text, c, FEW, MOST, latest, mode, frames, nodes)
 }
 
 // A clause of more tokens than the short arrays served. The machine takes a word for each token at most, and one before the first.
 fn long_clause(
     text: &[u8],
-    cursor: Cursor,
-    marks: Marks,
+    latest: usize,
     mode: Mode,
     c: Cursor,
     held: &[u64],
     out: &[u32],
     tree: &mut [u16],
-) -> ClauseAnswer
+) -> Verdict
     requires { ⌜ Longer (now text) mode c (now held) (now out) ⌝ }
-    ensures { λ r. ⌜ leaves r (now (tree .exit)) ≡ byResult cursor (now (tree .entry)) (clauseRun (mostTokens - fewTokens) fewTokens marks (stateOf mode (now (held .entry)) (now (out .entry))) (now (text .entry)) c) ⌝ }
+    ensures { λ r. ⌜ came r (now (tree .exit)) ≡ byResult (now (tree .entry)) (clauseRun (mostTokens - fewTokens) fewTokens latest (stateOf mode (now (held .entry)) (now (out .entry))) (now (text .entry)) c) ⌝ }
 {
     let mut frames = [0u64; 1025];
     let mut nodes = [0u32; 1025];
-    match more_tokens(text, c, marks, mode, held, out, &mut frames, &mut nodes) {
-        Machined::Stopped(fault) => ClauseAnswer::Refused { fault, cursor },
+    match more_tokens(text, c, latest, mode, held, out, &mut frames, &mut nodes) {
+        Machined::Stopped(fault) => Verdict::Refused(fault),
         Machined::Paused {
-            marks: began,
+            latest: _,
             mode: _,
             next: _,
-        } => clause_refused(began.first, cursor, Refusal::TooManyTokens),
+        } => Verdict::AtFirst(Refusal::TooManyTokens),
         Machined::Whole {
-            marks: began,
+            latest: taken,
             mode: last,
             next,
-        } => finish_clause(began, cursor, last, next, &frames, &nodes, tree),
+        } => finish_clause(taken, last, next, &frames, &nodes, tree),
     }
 }
 
 // The clause at a valid cursor.
-fn clause_at(text: &[u8], cursor: Cursor, tree: &mut [u16]) -> ClauseAnswer
+fn clause_at(text: &[u8], cursor: Cursor, tree: &mut [u16]) -> Verdict
     requires { ⌜ valid (length (now text)) cursor ≡ true ⌝ }
-    ensures { λ r. ⌜ leaves r (now (tree .exit)) ≡ byTokens (now (text .entry)) cursor (now (tree .entry)) (clauseTokens (now (text .entry)) cursor) ⌝ }
+    ensures { λ r. ⌜ came r (now (tree .exit)) ≡ byTokens (now (tree .entry)) (clauseTokens (now (text .entry)) cursor) ⌝ }
 {
     let mut frames = [0u64; 65];
     let mut nodes = [0u32; 65];
-    match first_tokens(text, cursor, &mut frames, &mut nodes) {
-        Machined::Stopped(fault) => ClauseAnswer::Refused { fault, cursor },
-        Machined::Paused { marks, mode, next } => {
-            long_clause(text, cursor, marks, mode, next, &frames, &nodes, tree)
+    match first_tokens(text, cursor, FEW, &mut frames, &mut nodes) {
+        Machined::Stopped(fault) => Verdict::Refused(fault),
+        Machined::Paused { latest, mode, next } => {
+            long_clause(text, latest, mode, next, &frames, &nodes, tree)
         }
-        Machined::Whole { marks, mode, next } => {
-            finish_clause(marks, cursor, mode, next, &frames, &nodes, tree)
+        Machined::Whole { latest, mode, next } => {
+            finish_clause(latest, mode, next, &frames, &nodes, tree)
         }
+    }
+}
+
+// A refusal, with the caller's cursor.
+fn refuse(refusal: Refusal, offset: usize, cursor: Cursor) -> ClauseAnswer
+    ensures { λ r. ⌜ r ≡ ClauseAnswer.Refused (fault refusal offset) cursor ⌝ }
+{
+    ClauseAnswer::Refused {
+        fault: Fault { refusal, offset },
+        cursor,
+    }
+}
+
+// What it comes to, as the call answers.
+fn answer_at(text: &[u8], cursor: Cursor, tree: &mut [u16]) -> ClauseAnswer
+    requires { ⌜ valid (length (now text)) cursor ≡ true ⌝ }
+    ensures { λ r. ⌜ leaves r (now (tree .exit)) ≡ leftBy (now (text .entry)) cursor (byTokens (now (tree .entry)) (clauseTokens (now (text .entry)) cursor)) ⌝ }
+{
+    match clause_at(text, cursor, tree) {
+        Verdict::Read { nodes, next } => ClauseAnswer::Read { nodes, next },
+        Verdict::Refused(fault) => ClauseAnswer::Refused { fault, cursor },
+        Verdict::AtFirst(refusal) => refuse(refusal, first_offset(text, cursor), cursor),
     }
 }
 
@@ -418,13 +413,7 @@ pub fn read_clause(text: &[u8], cursor: Cursor, tree: &mut [u16]) -> ClauseAnswe
     ensures { λ r. ⌜ Outcome (now (text .entry)) cursor (now (tree .entry)) r (now (tree .exit)) ⌝ }
 {
     if is_valid(text.len(), cursor) {
-        return clause_at(text, cursor, tree);
+        return answer_at(text, cursor, tree);
     }
-    ClauseAnswer::Refused {
-        fault: Fault {
-            refusal: Refusal::NotValid,
-            offset: 0,
-        },
-        cursor,
-    }
+    refuse(Refusal::NotValid, 0, cursor)
 }

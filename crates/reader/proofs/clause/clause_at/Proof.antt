@@ -13,42 +13,41 @@ use Rattle.reader.specs.Machine.{size, start}
 use Rattle.reader.specs.Weight.{sizes, weight}
 use Rattle.reader.specs.Layout.{stateOf}
 use Rattle.reader.specs.Clause.{mostTokens, clauseTokens}
-use Rattle.reader.specs.Gather.{fewTokens, noMarks, leaves, nodesOf, byNodes, byTokens, byResult, clauseRun, resultOf, Beginning, Longer, Finishing}
+use Rattle.reader.specs.Gather.{fewTokens, came, nodesOf, byNodes, byTokens, byResult, clauseRun, resultOf, Beginning, Longer, Finishing}
 use Rattle.reader.specs.declared.machine.Mode.{Mode}
-use Rattle.reader.specs.declared.clause.Marks.{Marks}
 use Rattle.reader.specs.declared.clause.Machined.{Machined}
-use Rattle.reader.specs.declared.clause.ClauseAnswer.{ClauseAnswer}
+use Rattle.reader.specs.declared.clause.Verdict.{Verdict}
 use Rattle.reader.proofs.Runs.{same-outcome, finished-light, paused-light, paused-valid, goOn, in-two}
 use Rattle.reader.proofs.clause.clause_at.Statement.{statement}
 use Rattle.reader.proofs.clause.clause_at.Tie as tie
 
-beginning : (s : List ℕ) (c : Cursor) (st ns : List ℕ) → valid (length s) c ≡ true → length st ≡ 65 → length ns ≡ 65 → Beginning s c st ns
-beginning s c st ns v f g = record { valid-cursor = v; frames = omega arith; nodes = omega arith }
+beginning : (s : List ℕ) (c : Cursor) (st ns : List ℕ) → valid (length s) c ≡ true → length st ≡ 65 → length ns ≡ 65 → Beginning s c fewTokens st ns
+beginning s c st ns v f g = record { valid-cursor = v; few = omega arith; frames = omega arith; nodes = omega arith }
 
 -- what the first tokens came to, with the slices as they are then
-module _ (s : List ℕ) (c : Cursor) (d : List ℕ) (r : Machined) (st ns : List ℕ) (e : resultOf r st ns ≡ clauseRun fewTokens 0 noMarks start s c) where
+module _ (s : List ℕ) (c : Cursor) (d : List ℕ) (r : Machined) (st ns : List ℕ) (e : resultOf r st ns ≡ clauseRun fewTokens 0 0 start s c) where
   -- and what the whole clause comes to from there
-  told : (y : Machined) → r ≡ y → byResult c d (goOn 960 fewTokens s (resultOf y st ns)) ≡ byTokens s c d (clauseTokens s c)
+  told : (y : Machined) → r ≡ y → byResult d (goOn 960 fewTokens s (resultOf y st ns)) ≡ byTokens d (clauseTokens s c)
   told y f =
-      ap (λ (x : Machined). byResult c d (goOn 960 fewTokens s (resultOf x st ns))) (sym f)
-      ∙ ap (λ x. byResult c d (goOn 960 fewTokens s x)) e
-      ∙ ap (byResult c d) (sym (in-two fewTokens 960 mostTokens 0 fewTokens noMarks start s c refl refl))
+      ap (λ (x : Machined). byResult d (goOn 960 fewTokens s (resultOf x st ns))) (sym f)
+      ∙ ap (λ x. byResult d (goOn 960 fewTokens s x)) e
+      ∙ ap (byResult d) (sym (in-two fewTokens 960 mostTokens 0 fewTokens 0 start s c refl refl))
       ∙ same-outcome s c d
 
-  stopped : (w : Fault) → r ≡ Machined.Stopped w → leaves (ClauseAnswer.Refused w c) d ≡ byTokens s c d (clauseTokens s c)
+  stopped : (w : Fault) → r ≡ Machined.Stopped w → came (Verdict.Refused w) d ≡ byTokens d (clauseTokens s c)
   unfolding resultOf byResult goOn
   stopped w f = told (Machined.Stopped w) f
 
-  module _ (o : Marks) (m : Mode) (n : Cursor) where
+  module _ (o : ℕ) (m : Mode) (n : Cursor) where
     module _ (f : r ≡ Machined.Paused o m n) where
       longer : valid (length s) c ≡ true → length st ≡ 65 → length ns ≡ 65 → Longer s m n st ns
       unfolding resultOf weight sizes size
       longer v g h =
           let p = sym e ∙ ap (λ (x : Machined). resultOf x st ns) f in
-          let w = paused-light fewTokens 0 noMarks o start (stateOf m st ns) s c n p in
-          record { valid-next = paused-valid fewTokens 0 noMarks o start (stateOf m st ns) s c n v p; frames = g; nodes = h; words = omega arith }
+          let w = paused-light fewTokens 0 0 o start (stateOf m st ns) s c n p in
+          record { valid-next = paused-valid fewTokens 0 0 o start (stateOf m st ns) s c n v p; frames = g; nodes = h; words = omega arith }
 
-      went-on : (a : ClauseAnswer) (d′ : List ℕ) → leaves a d′ ≡ byResult c d (clauseRun (mostTokens - fewTokens) fewTokens o (stateOf m st ns) s n) → leaves a d′ ≡ byTokens s c d (clauseTokens s c)
+      went-on : (a : Verdict) (d′ : List ℕ) → came a d′ ≡ byResult d (clauseRun (mostTokens - fewTokens) fewTokens o (stateOf m st ns) s n) → came a d′ ≡ byTokens d (clauseTokens s c)
       unfolding resultOf goOn
       went-on a d′ g = g ∙ told (Machined.Paused o m n) f
 
@@ -56,10 +55,10 @@ module _ (s : List ℕ) (c : Cursor) (d : List ℕ) (r : Machined) (st ns : List
       finishing : length ns ≡ 65 → Finishing m st ns
       unfolding resultOf weight sizes size
       finishing g =
-          let w = finished-light fewTokens 0 noMarks o start (stateOf m st ns) s c n (sym e ∙ ap (λ (x : Machined). resultOf x st ns) f) in
+          let w = finished-light fewTokens 0 0 o start (stateOf m st ns) s c n (sym e ∙ ap (λ (x : Machined). resultOf x st ns) f) in
           record { words = omega arith; weight-left = omega arith }
 
-      accepted : (a : ClauseAnswer) (d′ : List ℕ) → leaves a d′ ≡ byNodes o c d n (nodesOf (stateOf m st ns)) → leaves a d′ ≡ byTokens s c d (clauseTokens s c)
+      accepted : (a : Verdict) (d′ : List ℕ) → came a d′ ≡ byNodes d o n (nodesOf (stateOf m st ns)) → came a d′ ≡ byTokens d (clauseTokens s c)
       unfolding resultOf byResult goOn
       accepted a d′ g = g ∙ told (Machined.Whole o m n) f
 
@@ -78,8 +77,8 @@ first-tokens-requires c κs = search ways
 enum-known-fault : tie.Need-enum-known-fault
 enum-known-fault c = search ways
 
-enum-known-marks : tie.Need-enum-known-marks
-enum-known-marks c = search ways
+enum-known-latest : tie.Need-enum-known-latest
+enum-known-latest c = search ways
 
 slice-aggregate-long-clause : tie.Need-slice-aggregate-long-clause
 slice-aggregate-long-clause c = search ways
@@ -90,8 +89,8 @@ slice-aggregate-long-clause-2 c = search ways
 long-clause-requires : tie.Need-long-clause-requires
 long-clause-requires c κs = search ways
 
-enum-known-marks-2 : tie.Need-enum-known-marks-2
-enum-known-marks-2 c = search ways
+enum-known-latest-2 : tie.Need-enum-known-latest-2
+enum-known-latest-2 c = search ways
 
 slice-aggregate-finish-clause : tie.Need-slice-aggregate-finish-clause
 slice-aggregate-finish-clause c = search ways
@@ -125,11 +124,11 @@ clause-at-spec =
     slice-aggregate-first-tokens-2
     first-tokens-requires
     enum-known-fault
-    enum-known-marks
+    enum-known-latest
     slice-aggregate-long-clause
     slice-aggregate-long-clause-2
     long-clause-requires
-    enum-known-marks-2
+    enum-known-latest-2
     slice-aggregate-finish-clause
     slice-aggregate-finish-clause-2
     finish-clause-requires

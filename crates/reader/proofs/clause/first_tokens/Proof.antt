@@ -1,5 +1,5 @@
 -- `reader::clause::first_tokens` meets its contract. Assumes nothing.
-use Prim.Native.Nat.{ℕ}
+use Prim.Native.Nat.{ℕ, _-_}
 use mathlib.Core.Path.{_≡_, _∙_, ap}
 use mathlib.Core.List.{List}
 use native.Mathlib.Omega.{arith}
@@ -9,29 +9,29 @@ use Rattle.lexer.specs.declared.cursor.Cursor.{Cursor}
 use Rattle.reader.specs.Machine.{State, size, start}
 use Rattle.reader.specs.Weight.{sizes, weight}
 use Rattle.reader.specs.Layout.{stateOf, Room}
-use Rattle.reader.specs.Gather.{fewTokens, noMarks, Result, clauseRun, Taking, Beginning}
+use Rattle.reader.specs.Gather.{Result, clauseRun, Taking, Beginning}
 use Rattle.reader.specs.declared.machine.Mode.{Mode}
 use Rattle.reader.proofs.clause.first_tokens.Statement.{statement}
 use Rattle.reader.proofs.clause.first_tokens.Tie as tie
 
-room : (s : List ℕ) (c : Cursor) (st ns : List ℕ) → Beginning s c st ns → Room st ns 0 0 1
-room s c st ns w = record { frames = omega (arith, w .frames); nodes = omega (arith, w .nodes) }
+room : (s : List ℕ) (c : Cursor) (to : ℕ) (st ns : List ℕ) → Beginning s c to st ns → Room st ns 0 0 1
+room s c to st ns w = record { frames = omega (arith, w .frames); nodes = omega (arith, w .nodes) }
 
-module _ (s : List ℕ) (c : Cursor) (m : Mode) (st ns : List ℕ) (e : stateOf m st ns ≡ start) where
-  taking : (st₀ : List ℕ) → Beginning s c st₀ ns → length st ≡ length st₀ → Taking s c 0 fewTokens m st ns
+module _ (s : List ℕ) (c : Cursor) (to : ℕ) (m : Mode) (st ns : List ℕ) (e : stateOf m st ns ≡ start) where
+  taking : (st₀ : List ℕ) → Beginning s c to st₀ ns → length st ≡ length st₀ → Taking s c 0 to m st ns
   unfolding weight sizes size
   taking st₀ w l =
       record {
         valid-cursor = w .valid-cursor;
         ahead = omega arith;
-        few = omega arith;
+        few = w .few;
         frames = omega (arith, w .frames);
         nodes = w .nodes;
         words = rw e (omega arith);
       }
 
-  ran : (r : Result) → r ≡ clauseRun fewTokens 0 noMarks (stateOf m st ns) s c → r ≡ clauseRun fewTokens 0 noMarks start s c
-  ran r f = f ∙ ap (λ (z : State). clauseRun fewTokens 0 noMarks z s c) e
+  ran : (r : Result) → r ≡ clauseRun (to - 0) 0 0 (stateOf m st ns) s c → r ≡ clauseRun to 0 0 start s c
+  ran r f = let k : to - 0 ≡ to = omega arith in f ∙ ap (λ (n : ℕ). clauseRun n 0 0 (stateOf m st ns) s c) k ∙ ap (λ (z : State). clauseRun to 0 0 z s c) e
 
 ruleset ways = (room, taking, ran, needs)
 

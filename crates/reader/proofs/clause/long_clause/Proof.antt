@@ -5,17 +5,15 @@ use mathlib.Core.List.{List}
 use native.Mathlib.Omega.{arith}
 use borrow.Author.Needs.{needs}
 use lib.ListN.{length}
-use Rattle.lexer.specs.Refusal.{fault}
 use Rattle.lexer.specs.declared.cursor.Cursor.{Cursor}
 use Rattle.lexer.specs.declared.refusal.Fault.{Fault}
 use Rattle.lexer.specs.declared.refusal.Refusal.the-variants.{TooManyTokens}
 use Rattle.reader.specs.Layout.{stateOf}
 use Rattle.reader.specs.Clause.{mostTokens}
-use Rattle.reader.specs.Gather.{fewTokens, leaves, nodesOf, Result, byNodes, byResult, clauseRun, resultOf, Longer, GoingOn, Finishing}
+use Rattle.reader.specs.Gather.{fewTokens, came, nodesOf, Result, byNodes, byResult, clauseRun, resultOf, Longer, GoingOn, Finishing}
 use Rattle.reader.specs.declared.machine.Mode.{Mode}
-use Rattle.reader.specs.declared.clause.Marks.{Marks}
 use Rattle.reader.specs.declared.clause.Machined.{Machined}
-use Rattle.reader.specs.declared.clause.ClauseAnswer.{ClauseAnswer}
+use Rattle.reader.specs.declared.clause.Verdict.{Verdict}
 use Rattle.reader.proofs.Runs.{finished-light}
 use Rattle.reader.proofs.clause.long_clause.Statement.{statement}
 use Rattle.reader.proofs.clause.long_clause.Tie as tie
@@ -24,7 +22,7 @@ module _ (s : List ℕ) (m : Mode) (k : Cursor) (st ns : List ℕ) (w : Longer s
   going : (fs os : List ℕ) → length fs ≡ 1025 → length os ≡ 1025 → GoingOn s k m st ns fs os
   going fs os f g = record { longer = w; frames = omega arith; nodes = omega arith }
 
-  finishing : (o : Marks) (r : Machined) (fs os : List ℕ) (o′ : Marks) (m′ : Mode) (n : Cursor) → resultOf r fs os ≡ clauseRun (mostTokens - fewTokens) fewTokens o (stateOf m st ns) s k
+  finishing : (o : ℕ) (r : Machined) (fs os : List ℕ) (o′ : ℕ) (m′ : Mode) (n : Cursor) → resultOf r fs os ≡ clauseRun (mostTokens - fewTokens) fewTokens o (stateOf m st ns) s k
       → r ≡ Machined.Whole o′ m′ n → length os ≡ 1025 → Finishing m′ fs os
   unfolding resultOf
   finishing o r fs os o′ m′ n e f g =
@@ -32,22 +30,22 @@ module _ (s : List ℕ) (m : Mode) (k : Cursor) (st ns : List ℕ) (w : Longer s
       record { words = omega arith; weight-left = omega (arith, w .words) }
 
 -- what the tokens came to, with the slices as they are then: x is the run
-module _ (c : Cursor) (d : List ℕ) (x : Result) (r : Machined) (fs os : List ℕ) (e : resultOf r fs os ≡ x) where
-  told : (y : Machined) → r ≡ y → byResult c d (resultOf y fs os) ≡ byResult c d x
-  told y f = ap (λ (z : Machined). byResult c d (resultOf z fs os)) (sym f) ∙ ap (byResult c d) e
+module _ (d : List ℕ) (x : Result) (r : Machined) (fs os : List ℕ) (e : resultOf r fs os ≡ x) where
+  told : (y : Machined) → r ≡ y → byResult d (resultOf y fs os) ≡ byResult d x
+  told y f = ap (λ (z : Machined). byResult d (resultOf z fs os)) (sym f) ∙ ap (byResult d) e
 
-  stopped : (w : Fault) → r ≡ Machined.Stopped w → leaves (ClauseAnswer.Refused w c) d ≡ byResult c d x
+  stopped : (w : Fault) → r ≡ Machined.Stopped w → came (Verdict.Refused w) d ≡ byResult d x
   unfolding resultOf byResult
   stopped w f = told (Machined.Stopped w) f
 
-  module _ (o : Marks) (m : Mode) (n : Cursor) (a : ClauseAnswer) where
-    too-many : r ≡ Machined.Paused o m n → a ≡ ClauseAnswer.Refused (fault TooManyTokens (o .first)) c → leaves a d ≡ byResult c d x
+  module _ (o : ℕ) (m : Mode) (n : Cursor) where
+    too-many : r ≡ Machined.Paused o m n → came (Verdict.AtFirst TooManyTokens) d ≡ byResult d x
     unfolding resultOf byResult
-    too-many f g = ap (λ (y : ClauseAnswer). leaves y d) g ∙ told (Machined.Paused o m n) f
+    too-many f = told (Machined.Paused o m n) f
 
-    accepted : (d′ : List ℕ) → r ≡ Machined.Whole o m n → leaves a d′ ≡ byNodes o c d n (nodesOf (stateOf m fs os)) → leaves a d′ ≡ byResult c d x
+    accepted : (a : Verdict) (d′ : List ℕ) → r ≡ Machined.Whole o m n → came a d′ ≡ byNodes d o n (nodesOf (stateOf m fs os)) → came a d′ ≡ byResult d x
     unfolding resultOf byResult
-    accepted d′ f g = g ∙ told (Machined.Whole o m n) f
+    accepted a d′ f g = g ∙ told (Machined.Whole o m n) f
 
 ruleset ways = (going, finishing, stopped, too-many, accepted, needs)
 
@@ -64,14 +62,11 @@ more-tokens-requires c κs = search ways
 enum-known-fault : tie.Need-enum-known-fault
 enum-known-fault c = search ways
 
-enum-known-began : tie.Need-enum-known-began
-enum-known-began c = search ways
+enum-told : tie.Need-enum-told
+enum-told c = search ways
 
-clause-refused-requires : tie.Need-clause-refused-requires
-clause-refused-requires c κs = search ways
-
-enum-known-began-2 : tie.Need-enum-known-began-2
-enum-known-began-2 c = search ways
+enum-known-taken : tie.Need-enum-known-taken
+enum-known-taken c = search ways
 
 slice-aggregate-finish-clause : tie.Need-slice-aggregate-finish-clause
 slice-aggregate-finish-clause c = search ways
@@ -102,9 +97,8 @@ long-clause-spec =
     slice-aggregate-more-tokens-2
     more-tokens-requires
     enum-known-fault
-    enum-known-began
-    clause-refused-requires
-    enum-known-began-2
+    enum-told
+    enum-known-taken
     slice-aggregate-finish-clause
     slice-aggregate-finish-clause-2
     finish-clause-requires

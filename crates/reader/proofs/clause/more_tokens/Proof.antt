@@ -11,7 +11,6 @@ use Rattle.reader.specs.Layout.{stateOf}
 use Rattle.reader.specs.Clause.{mostTokens}
 use Rattle.reader.specs.Gather.{fewTokens, Result, clauseRun, Taking, Copied, GoingOn}
 use Rattle.reader.specs.declared.machine.Mode.{Mode}
-use Rattle.reader.specs.declared.clause.Marks.{Marks}
 use Rattle.reader.proofs.Fronts.{same-state}
 use Rattle.reader.proofs.clause.more_tokens.Statement.{statement}
 use Rattle.reader.proofs.clause.more_tokens.Tie as tie
@@ -38,7 +37,7 @@ module _ (s : List ℕ) (c : Cursor) (m : Mode) (st ns fs os : List ℕ) (w : Go
           words = rw same (w .longer .words);
         }
 
-    ran : (o : Marks) (r : Result) → r ≡ clauseRun (mostTokens - fewTokens) fewTokens o (stateOf m fs′ os′) s c → r ≡ clauseRun (mostTokens - fewTokens) fewTokens o (stateOf m st ns) s c
+    ran : (o : ℕ) (r : Result) → r ≡ clauseRun (mostTokens - fewTokens) fewTokens o (stateOf m fs′ os′) s c → r ≡ clauseRun (mostTokens - fewTokens) fewTokens o (stateOf m st ns) s c
     ran o r e = e ∙ ap (λ (z : State). clauseRun (mostTokens - fewTokens) fewTokens o z s c) same
 
 ruleset ways = (frames-fit, nodes-fit, taking, ran, needs)

@@ -2,7 +2,7 @@
 -- Assumes nothing.
 use Prim.Native.Nat.{ℕ, suc, _+_, _-_, _<_, _≤_}
 use mathlib.Core.Path.{_≡_, refl, sym, _∙_, ap}
-use mathlib.Core.Bool.{Bool, true, false}
+use mathlib.Core.Bool.{Bool, true, false, cond}
 use mathlib.Core.List.{List}
 use native.Mathlib.Omega.{arith}
 use borrow.Author.Needs.{needs}
@@ -17,11 +17,10 @@ use Rattle.reader.specs.Machine as M
 use Rattle.reader.specs.Machine.{isDead}
 use Rattle.reader.specs.Layout.{stateOf, sightOf, Ready}
 use Rattle.reader.specs.Clause.{isEnd}
-use Rattle.reader.specs.Gather.{sightFrom, ReadFrom, deadMode, marksWith, marked, clauseRun, resultOf, Taking}
+use Rattle.reader.specs.Gather.{sightFrom, ReadFrom, latest, deadMode, clauseRun, resultOf, Taking}
 use Rattle.reader.specs.declared.machine.Mode.{Mode}
 use Rattle.reader.specs.declared.machine.Mode.the-variants.{Want, Pend, Begun, Have, Dead, Done}
 use Rattle.reader.specs.declared.machine.Sight.{Sight}
-use Rattle.reader.specs.declared.clause.Marks.{Marks}
 use Rattle.reader.specs.declared.clause.Machined.{Machined}
 use Rattle.reader.proofs.Sights.{known}
 use Rattle.reader.proofs.Size.{step-size}
@@ -29,16 +28,16 @@ use Rattle.reader.proofs.Turns.{told-refused, next-valid, ready, takes-
 use Rattle.reader.proofs.clause.take_tokens.Statement.{statement}
 use Rattle.reader.proofs.clause.take_tokens.Tie as tie
 
-record Inv (s : List ℕ) (c₀ : Cursor) (from to : ℕ) (f₀ : Marks) (m₀ : Mode) (st₀ ns₀ : List ℕ) (c : Cursor) (i : ℕ) (f : Marks) (m : Mode) (st ns : List ℕ) : Type 0 where
+record Inv (s : List ℕ) (c₀ : Cursor) (from to f₀ : ℕ) (m₀ : Mode) (st₀ ns₀ : List ℕ) (c : Cursor) (i f : ℕ) (m : Mode) (st ns : List ℕ) : Type 0 where
   same : clauseRun (to - from) from f₀ (stateOf m₀ st₀ ns₀) s c₀ ≡ clauseRun (to - i) i f (stateOf m st ns) s c
   taking : Taking s c i to m st ns
   frames : length st ≡ length st₀
   nodes : length ns ≡ length ns₀
 
-started : (s : List ℕ) (c : Cursor) (from to : ℕ) (f : Marks) (m : Mode) (st ns : List ℕ) → Taking s c from to m st ns → Inv s c from to f m st ns c from f m st ns
+started : (s : List ℕ) (c : Cursor) (from to f : ℕ) (m : Mode) (st ns : List ℕ) → Taking s c from to m st ns → Inv s c from to f m st ns c from f m st ns
 started s c from to f m st ns w = record { same = refl; taking = w; frames = refl; nodes = refl }
 
-dead-mode : (m : Mode) (st ns : List ℕ) → isDead (stateOf m st ns) ≡ deadMode m
+dead-mode : (m : Mode) (st ns : List ℕ) → deadMode m ≡ isDead (stateOf m st ns)
 unfolding isDead stateOf
 dead-mode (Want p) st ns = refl
 dead-mode (Pend p q) st ns = refl
@@ -48,7 +47,7 @@ dead-mode Dead st ns = refl
 dead-mode (Done n) st ns = refl
 
 -- the ways out of the loop and of a turn, over plain values: a is what the token call answered
-module _ (s : List ℕ) (c₀ : Cursor) (from to : ℕ) (f₀ : Marks) (m₀ : Mode) (st₀ ns₀ : List ℕ) (c : Cursor) (i : ℕ) (f : Marks) (m : Mode) (st ns : List ℕ) (v : Inv s c₀ from to f₀ m₀ st₀ ns₀ c i f m st ns) where
+module _ (s : List ℕ) (c₀ : Cursor) (from to f₀ : ℕ) (m₀ : Mode) (st₀ ns₀ : List ℕ) (c : Cursor) (i f : ℕ) (m : Mode) (st ns : List ℕ) (v : Inv s c₀ from to f₀ m₀ st₀ ns₀ c i f m st ns) where
   pauses : to ≤ i → resultOf (Machined.Paused f m c) st ns ≡ clauseRun (to - from) from f₀ (stateOf m₀ st₀ ns₀) s c₀
   unfolding resultOf clauseRun
   pauses h =
@@ -84,10 +83,10 @@ module _ (s : List ℕ) (c₀ : Cursor) (from to : ℕ) (f₀ : Marks) (m₀ : M
         read-there : ReadFrom s c t d
         read-there = record { reads = sym e ∙ g }
 
-        module _ (k : Sight) (q : sightOf k ≡ sightFrom s c) (r : Mode) (st′ ns′ : List ℕ) (y : stateOf r st′ ns′ ≡ M.step packed (stateOf m st ns) i (sightOf k)) (b : Bool) (j : b ≡ isEnd (t .kind)) (f′ : Marks) (o₀ : f′ ≡ marksWith i (deadMode m) f (t .start)) where
-          -- the marks behind the token
-          o : f′ ≡ marked i (stateOf m st ns) f t
-          o = o₀ ∙ ap (λ (b : Bool). marksWith i b f (t .start)) (sym (dead-mode m st ns))
+        module _ (k : Sight) (q : sightOf k ≡ sightFrom s c) (r : Mode) (st′ ns′ : List ℕ) (y : stateOf r st′ ns′ ≡ M.step packed (stateOf m st ns) i (sightOf k)) (b : Bool) (j : b ≡ isEnd (t .kind)) (f′ : ℕ) (o₀ : f′ ≡ cond (deadMode m) f (t .start)) where
+          -- the last token that it took alive
+          o : f′ ≡ latest (stateOf m st ns) f (t .start)
+          o = o₀ ∙ ap (λ (x : Bool). cond x f (t .start)) (dead-mode m st ns)
 
           -- the machine behind the token
           behind : stateOf r st′ ns′ ≡ M.step packed (stateOf m st ns) i (sightFrom s c)
@@ -121,10 +120,10 @@ module _ (s : List ℕ) (c₀ : Cursor) (from to : ℕ) (f₀ : Marks) (m₀ : M
               }
 
 abbrev Inv-loop : tie.InvT-loop
-Inv-loop text from to frames₀ nodes₀ mode₀ c₀ index₀ marks₀ frames nodes mode c index marks = Inv text c₀ from to marks₀ mode₀ frames₀ nodes₀ c index marks mode frames nodes
+Inv-loop text from to taken frames₀ nodes₀ mode₀ c₀ index₀ latest₀ frames nodes mode c index latest = Inv text c₀ from to taken mode₀ frames₀ nodes₀ c index latest mode frames nodes
 
 abbrev μ-loop : tie.MeasureT-loop
-μ-loop text from to frames₀ nodes₀ mode₀ c₀ index₀ marks₀ frames nodes mode c index marks = to - index
+μ-loop text from to taken frames₀ nodes₀ mode₀ c₀ index₀ latest₀ frames nodes mode c index latest = to - index
 
 ruleset ways = (started, pauses, less, next-fits, room, stops, read-there, ends, again, needs)
 
@@ -150,8 +149,8 @@ returns c = search ways
 enum-known-token : tie.Need-enum-known-token Inv-loop μ-loop
 enum-known-token c = search ways
 
-mark-token-requires : tie.Need-mark-token-requires Inv-loop μ-loop
-mark-token-requires c κs = search ways
+last-alive-requires : tie.Need-last-alive-requires Inv-loop μ-loop
+last-alive-requires c κs = search ways
 
 see-token-requires : tie.Need-see-token-requires Inv-loop μ-loop
 see-token-requires c κs = search ways
@@ -202,7 +201,7 @@ take-tokens-spec =
     same-length-2
     returns
     enum-known-token
-    mark-token-requires
+    last-alive-requires
     see-token-requires
     step-requires
     is-end-requires
