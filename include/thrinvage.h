@@ -65,7 +65,7 @@ enum thrinvage_refusal {
     THRINVAGE_NOT_VALID = 8,        /* the text is longer than 65,535 bytes, or the cursor is not valid (below); at 0 */
     THRINVAGE_NO_ROOM = 9,          /* too short: the scratch, at the token; the tree or the line, at the clause's first; an image or its nodes, at 0 */
     THRINVAGE_TOO_MANY_TOKENS = 10, /* 1,024 tokens, none an end mark; at the first */
-    THRINVAGE_NO_READING = 11,      /* the grammar has no reading of the clause; at its first token */
+    THRINVAGE_NO_READING = 11,      /* the clause has no reading; at the first token that cannot stand: no clause begins with the tokens up to it and it */
     THRINVAGE_NO_TEXT = 12,         /* the token is no name, variable or string; at it */
     THRINVAGE_TOO_LONG = 13,        /* an image's body would pass 65,535 bytes; at 0 */
     THRINVAGE_NO_PACK = 14,         /* the bytes are no image, or the nodes are none that an image can have (below); at 0 */
@@ -74,7 +74,12 @@ enum thrinvage_refusal {
 
 /* The limits of refusal 7: an integer is at most 9,223,372,036,854,775,807; the code of an escape is 1 to 127; the digits of a float, read as one
  * integer without the point, are at most 9,007,199,254,740,992, to be multiplied by ten to the power of -22 to 22.
- * A cursor is valid for refusal 8 if its offset is at most the text's length, and its line and its column are at most its offset. */
+ * A cursor is valid for refusal 8 if its offset is at most the text's length, and its line and its column are at most its offset.
+ * The clauses of refusal 11 are those of the grammar, however long, and the end mark is a token too, so one of the tokens cannot stand: `x y.` is refused
+ * at its `y`, `f(a.` at the dot. All is read up to the end mark first: 1 to 7 of a token behind that place, and 10, come before 11.
+ *
+ * The line of an offset is the count of newlines (byte 10) before it, and its column the count of bytes between the last of them, or the text's start,
+ * and the offset; editors count both from 1. examples/c/read.c prints them, and the line with a caret below the byte. */
 
 /* A token's field `kind`. Whether `(` is OPEN or OPEN_CT hangs on what the call passed over, and on nothing before the cursor: at a cursor that was
  * put into the middle of layout by hand, a `(` that stands right there is OPEN_CT, and one behind more layout is OPEN. So it is with a `(` right behind

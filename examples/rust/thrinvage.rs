@@ -67,6 +67,8 @@ pub struct Token {
 #[derive(Clone, Copy, Debug, PartialEq, Eq)]
 pub struct Refusal {
     pub number: u32,
+    /// At a token, at a byte, or 0 where no place in a text is meant: the header says it for each number. Number 11 points at the first token that cannot
+    /// stand: no clause begins with the tokens up to it and it. `read.rs` shows the line and the column there.
     pub offset: usize,
 }
 
@@ -148,6 +150,8 @@ pub const NODE_NUMBERS: usize = 4092;
 
 /// The refusal where the text has ended.
 pub const END_OF_TEXT: u32 = 1;
+/// The refusal of a text that is too long, and of a cursor that is not valid.
+pub const NOT_VALID: u32 = 8;
 /// The refusal where the slice to be written has too little room.
 pub const NO_ROOM: u32 = 9;
 /// The refusal of the text call where the token is no name, variable or string.
