@@ -4,13 +4,21 @@
  *     read number TEXT                                  the number in a field
  *
  * A line is as the probe (docs/PROBE.md) or the listing program writes it. The last one is the refusal that ended the text: number 1, at the
- * text's length, where all of it was read. `whole` has one line: whether the last clause was cut off.
+ * text's length, where all of it was read. `whole` says `whole`, or what is wrong and where: as compilers do, so that an editor can go there, with the
+ * line and a caret below the byte.
  */
 #include <inttypes.h>
 #include <stdio.h>
 #include <string.h>
 
 #include "thrinvage.h"
+
+/* A text, and the file's name. */
+struct source {
+    const char *name;
+    const uint8_t *text;
+    size_t length;
+};
 
 /* In the order of enum thrinvage_kind. */
 static const char *const KINDS[] = {
@@ -46,10 +54,10 @@ static void print_token(const struct thrinvage_token *t) {
 }
 
 /* A struct begins with the cursor behind what was read, so it is handed back in to go on. A refusal leaves that cursor where it was. */
-static void print_tokens(const uint8_t *text, size_t length) {
+static void print_tokens(const struct source *s) {
     struct thrinvage_token t = {0};
     uint32_t number;
-    while ((number = thrinvage_next_token(text, length, t.offset, t.line, t.column, &t)) == THRINVAGE_READ)
+    while ((number = thrinvage_next_token(s->text, s->length, t.offset, t.line, t.column, &t)) == THRINVAGE_READ)
         print_token(&t);
     print_refused(number, t.refused_at, t.offset, t.line, t.column);
 }
@@ -70,17 +78,17 @@ static void print_text(const uint8_t *text, const uint8_t *scratch, const struct
 }
 
 /* The decoded names, variables and strings, a line each. A token that has no text is stepped over by the token call. */
-static void print_texts(const uint8_t *text, size_t length) {
+static void print_texts(const struct source *s) {
     static uint8_t scratch[THRINVAGE_LONGEST_TEXT]; /* room for any: a decoded text is never longer than its source */
     struct thrinvage_token_text t = {0};
     struct thrinvage_token *k = &t.token;
     uint32_t number;
     do {
-        number = thrinvage_next_token_text(text, length, k->offset, k->line, k->column, scratch, sizeof scratch, &t);
+        number = thrinvage_next_token_text(s->text, s->length, k->offset, k->line, k->column, scratch, sizeof scratch, &t);
         if (number == THRINVAGE_READ)
-            print_text(text, scratch, &t);
+            print_text(s->text, scratch, &t);
         else if (number == THRINVAGE_NO_TEXT)
-            number = thrinvage_next_token(text, length, k->offset, k->line, k->column, k);
+            number = thrinvage_next_token(s->text, s->length, k->offset, k->line, k->column, k);
     } while (number == THRINVAGE_READ);
     print_refused(number, k->refused_at, k->offset, k->line, k->column);
 }
@@ -94,11 +102,11 @@ static void print_tree(const uint16_t *tree, uint64_t nodes) {
     putchar('\n');
 }
 
-static void print_clauses(const uint8_t *text, size_t length) {
+static void print_clauses(const struct source *s) {
     uint16_t tree[THRINVAGE_TREE_NUMBERS];
     struct thrinvage_clause c = {0};
     uint32_t number;
-    while ((number = thrinvage_read_clause(text, length, c.offset, c.line, c.column, tree, THRINVAGE_TREE_NUMBERS, &c)) == THRINVAGE_READ) {
+    while ((number = thrinvage_read_clause(s->text, s->length, c.offset, c.line, c.column, tree, THRINVAGE_TREE_NUMBERS, &c)) == THRINVAGE_READ) {
         printf("clause %" PRIu64, c.count);
         print_cursor(c.offset, c.line, c.column);
         putchar('\n');
@@ -107,48 +115,100 @@ static void print_clauses(const uint8_t *text, size_t length) {
     print_refused(number, c.refused_at, c.offset, c.line, c.column);
 }
 
-static void print_listing(const uint8_t *text, size_t length) {
+static void print_listing(const struct source *s) {
     static uint8_t line[THRINVAGE_LINE_BYTES];
     struct thrinvage_clause c = {0};
     uint32_t number;
-    while ((number = thrinvage_list_clause(text, length, c.offset, c.line, c.column, line, sizeof line, &c)) == THRINVAGE_READ) {
+    while ((number = thrinvage_list_clause(s->text, s->length, c.offset, c.line, c.column, line, sizeof line, &c)) == THRINVAGE_READ) {
         fwrite(line, 1, c.count, stdout);
         putchar('\n');
     }
     printf("refused %" PRIu32 " at %" PRIu64 "\n", number, c.refused_at);
 }
 
+/* Where the line starts that holds the offset: behind the last newline before it. */
+static size_t line_start(const uint8_t *text, size_t offset) {
+    while (offset > 0 && text[offset - 1] != '\n')
+        offset--;
+    return offset;
+}
+
+/* Where the line ends: at its newline or with the text, and before a return that stands there. */
+static size_t line_end(const uint8_t *text, size_t length, size_t start) {
+    size_t end = start;
+    while (end < length && text[end] != '\n')
+        end++;
+    return end > start && text[end - 1] == '\r' ? end - 1 : end;
+}
+
+/* As compilers begin a message, so that an editor can go there: line and column from 1. All before the offset was read, so it is of ASCII, and a
+ * character is a byte. */
+static void print_place(const struct source *s, size_t offset) {
+    size_t line = 1;
+    for (size_t i = 0; i < offset; i++)
+        line += s->text[i] == '\n';
+    printf("%s:%zu:%zu: ", s->name, line, offset - line_start(s->text, offset) + 1);
+}
+
+/* The line that holds the offset, and a caret below that byte. Below a tab stands a tab: it takes as much room there as in the line. */
+static void print_caret(const struct source *s, size_t offset) {
+    size_t start = line_start(s->text, offset);
+    fwrite(s->text + start, 1, line_end(s->text, s->length, start) - start, stdout);
+    putchar('\n');
+    for (size_t i = start; i < offset; i++)
+        putchar(s->text[i] == '\t' ? '\t' : ' ');
+    puts("^");
+}
+
+static void print_fault(const struct source *s, uint32_t number, size_t offset) {
+    print_place(s, offset);
+    printf("refused %" PRIu32 " at %zu\n", number, offset);
+    print_caret(s, offset);
+}
+
+/* Points at the clause's first token. It may be cut off itself, so the token call cannot say where it starts; the longest stretch of layout before it can. */
+static void print_cut_off(const struct source *s, size_t offset) {
+    size_t start = s->length;
+    while (!thrinvage_only_layout(s->text, start, offset))
+        start--;
+    print_place(s, start);
+    puts("cut off: this clause has no end mark");
+    print_caret(s, start);
+}
+
 /* Reads all clauses. Where refusal 1 ended the text, nothing but layout stands behind the last of them, or the next one was cut off. */
-static void print_whole(const uint8_t *text, size_t length) {
+static void print_whole(const struct source *s) {
     uint16_t tree[THRINVAGE_TREE_NUMBERS];
     struct thrinvage_clause c = {0};
     uint32_t number;
     do
-        number = thrinvage_read_clause(text, length, c.offset, c.line, c.column, tree, THRINVAGE_TREE_NUMBERS, &c);
+        number = thrinvage_read_clause(s->text, s->length, c.offset, c.line, c.column, tree, THRINVAGE_TREE_NUMBERS, &c);
     while (number == THRINVAGE_READ);
-    if (number != THRINVAGE_END_OF_TEXT)
-        printf("refused %" PRIu32 " at %" PRIu64 "\n", number, c.refused_at);
-    else if (thrinvage_only_layout(text, length, c.offset))
-        printf("whole\n");
+    if (number == THRINVAGE_NOT_VALID)
+        printf("%s: refused %" PRIu32 " at 0\n", s->name, number); /* the text is too long: that is no place in it */
+    else if (number != THRINVAGE_END_OF_TEXT)
+        print_fault(s, number, c.refused_at);
+    else if (!thrinvage_only_layout(s->text, s->length, c.offset))
+        print_cut_off(s, c.offset);
     else
-        printf("cut off behind %" PRIu64 "\n", c.offset);
+        puts("whole");
 }
 
 static const struct {
     const char *name;
-    void (*print)(const uint8_t *text, size_t length);
+    void (*print)(const struct source *s);
 } MODES[] = {{"tokens", print_tokens}, {"texts", print_texts}, {"clauses", print_clauses}, {"listing", print_listing}, {"whole", print_whole}};
 
 /* Reads the file, or standard input where none is named, and prints it in this mode. */
-static int print_file(void (*print)(const uint8_t *text, size_t length), const char *name) {
+static int print_file(void (*print)(const struct source *s), const char *name) {
     static uint8_t text[THRINVAGE_LONGEST_TEXT + 1]; /* one more: a longer file is refused then, by number 8, and not cut short in silence */
     FILE *file = name == NULL ? stdin : fopen(name, "rb");
-    size_t length = file == NULL ? 0 : fread(text, 1, sizeof text, file);
+    struct source s = {name == NULL ? "standard input" : name, text, file == NULL ? 0 : fread(text, 1, sizeof text, file)};
     if (file == NULL || ferror(file)) {
-        perror(name == NULL ? "standard input" : name);
+        perror(s.name);
         return 2;
     }
-    print(text, length);
+    print(&s);
     return 0;
 }
 

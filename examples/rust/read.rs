@@ -6,7 +6,8 @@
 //! ```
 //!
 //! A line is as the probe (docs/PROBE.md) or the listing program writes it. The last one is the refusal that ended the text: number 1, at the
-//! text's length, where all of it was read. `whole` has one line: whether the last clause was cut off.
+//! text's length, where all of it was read. `whole` says `whole`, or what is wrong and where: as compilers do, so that an editor can go there, with the
+//! line and a caret below the byte.
 mod thrinvage;
 
 use std::env::args;
@@ -15,7 +16,8 @@ use std::io::{Error, Read, Result, Write, stdin, stdout};
 use std::process::ExitCode;
 use thrinvage::{Cursor, Kind, LINE_BYTES, LONGEST_TEXT, Part, Refusal, TREE_NUMBERS, Token, Value};
 use thrinvage::{
-    END_OF_TEXT, NO_TEXT, list_clause, next_number_token, next_token, next_token_text, only_layout_behind, read_clause, tokens,
+    END_OF_TEXT, NO_TEXT, NOT_VALID, list_clause, next_number_token, next_token, next_token_text, only_layout_behind,
+    read_clause, tokens,
 };
 
 fn kind_name(kind: Kind) -> &'static str {
@@ -149,8 +151,48 @@ fn print_listing(out: &mut impl Write, text: &[u8]) -> Result<()> {
     }
 }
 
+/// Where the line starts that holds the offset: behind the last newline before it.
+fn line_start(text: &[u8], offset: usize) -> usize {
+    text[..offset].iter().rposition(|&byte| byte == b'\n').map_or(0, |newline| newline + 1)
+}
+
+/// The line that starts there, without its newline and a return before that.
+fn line_from(text: &[u8], start: usize) -> &[u8] {
+    let line = text[start..].split(|&byte| byte == b'\n').next().unwrap_or_default();
+    line.strip_suffix(b"\r").unwrap_or(line)
+}
+
+/// As compilers begin a message, so that an editor can go there: line and column from 1. All before the offset was read, so it is of ASCII, and a
+/// character is a byte.
+fn print_place(out: &mut impl Write, name: &str, text: &[u8], offset: usize) -> Result<()> {
+    let newlines = text[..offset].iter().filter(|&&byte| byte == b'\n').count();
+    write!(out, "{name}:{}:{}: ", newlines + 1, offset - line_start(text, offset) + 1)
+}
+
+/// The line that holds the offset, and a caret below that byte. Below a tab stands a tab: it takes as much room there as in the line.
+fn print_caret(out: &mut impl Write, text: &[u8], offset: usize) -> Result<()> {
+    let start = line_start(text, offset);
+    let below: Vec<u8> = text[start..offset].iter().map(|&byte| if byte == b'\t' { b'\t' } else { b' ' }).collect();
+    out.write_all(&[line_from(text, start), b"\n", &below, b"^\n"].concat())
+}
+
+fn print_fault(out: &mut impl Write, name: &str, text: &[u8], refusal: Refusal) -> Result<()> {
+    print_place(out, name, text, refusal.offset)?;
+    writeln!(out, "refused {} at {}", refusal.number, refusal.offset)?;
+    print_caret(out, text, refusal.offset)
+}
+
+/// Points at the clause's first token. It may be cut off itself, so the token call cannot say where it starts; the longest stretch of layout before it can.
+fn print_cut_off(out: &mut impl Write, name: &str, text: &[u8], at: Cursor) -> Result<()> {
+    let is_layout = |end: &usize| only_layout_behind(&text[..*end], at);
+    let start = (at.offset..text.len()).rev().find(is_layout).unwrap_or(at.offset);
+    print_place(out, name, text, start)?;
+    writeln!(out, "cut off: this clause has no end mark")?;
+    print_caret(out, text, start)
+}
+
 /// Reads all clauses. Where refusal 1 ended the text, nothing but layout stands behind the last of them, or the next one was cut off.
-fn print_whole(out: &mut impl Write, text: &[u8]) -> Result<()> {
+fn print_whole(out: &mut impl Write, name: &str, text: &[u8]) -> Result<()> {
     let mut tree = [0; TREE_NUMBERS];
     let mut at = Cursor::default();
     let refusal = loop {
@@ -159,12 +201,11 @@ fn print_whole(out: &mut impl Write, text: &[u8]) -> Result<()> {
             Err(refusal) => break refusal,
         }
     };
-    if refusal.number != END_OF_TEXT {
-        writeln!(out, "refused {} at {}", refusal.number, refusal.offset)
-    } else if only_layout_behind(text, at) {
-        writeln!(out, "whole")
-    } else {
-        writeln!(out, "cut off behind {}", at.offset)
+    match refusal.number {
+        NOT_VALID => writeln!(out, "{name}: refused {NOT_VALID} at 0"), // the text is too long: that is no place in it
+        END_OF_TEXT if only_layout_behind(text, at) => writeln!(out, "whole"),
+        END_OF_TEXT => print_cut_off(out, name, text, at),
+        _ => print_fault(out, name, text, refusal),
     }
 }
 
@@ -196,7 +237,7 @@ fn run(words: &[&str]) -> Result<()> {
         ["texts", names @ ..] => print_texts(&mut out, &read_text(names)?),
         ["clauses", names @ ..] => print_clauses(&mut out, &read_text(names)?),
         ["listing", names @ ..] => print_listing(&mut out, &read_text(names)?),
-        ["whole", names @ ..] => print_whole(&mut out, &read_text(names)?),
+        ["whole", names @ ..] => print_whole(&mut out, names.first().unwrap_or(&"standard input"), &read_text(names)?),
         _ => Err(usage()),
     }
 }
