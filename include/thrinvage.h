@@ -273,34 +273,42 @@ uint32_t thrinvage_move_up(const uint8_t *image, size_t length, uint8_t *out, si
  * which is then 0. */
 uint32_t thrinvage_move_down(const uint8_t *image, size_t length, uint8_t *out, size_t room, uint64_t *moved);
 
+/* Returns the offset of the first byte that is no layout, at the offset given or behind it; the text's length where there is none. Layout is blanks, tabs,
+ * newlines, returns and whole comments: a `%` comment may end with the text, and a bracketed comment that is not closed is none, from its slash on. The
+ * next token starts there, also one that was cut off. It is no part of the archive, and is tested, not proved: examples/run compares it with the token
+ * call. */
+static inline size_t thrinvage_layout_end(const uint8_t *text, size_t length, size_t offset) {
+    while (offset < length) {
+        uint8_t byte = text[offset];
+        if (byte == ' ' || byte == '\t' || byte == '\n' || byte == '\r') {
+            offset++;
+        } else if (byte == '%') {
+            while (offset < length && text[offset] != '\n')
+                offset++;
+        } else if (byte == '/' && offset + 1 < length && text[offset + 1] == '*') {
+            size_t close = offset + 2; /* of the first star that a slash follows */
+            while (close + 1 < length && !(text[close] == '*' && text[close + 1] == '/'))
+                close++;
+            if (close + 1 >= length)
+                return offset;
+            offset = close + 2;
+        } else {
+            return offset;
+        }
+    }
+    return length;
+}
+
 /* Was the last clause cut off? `a. ` and `a. b :- c` both end in refusal 1 at the text's length. Behind the last end mark the first has layout alone, the
  * second has not. So where the clause, the line or the pack call is refused by 1, the text is whole exactly if this function returns 1 at the offset that
  * the call was made at, which the struct still has. Who reads by the token call asks besides that the last token was an end mark, or that there was none.
  * A text that was cut between two clauses, in a `%` comment, or behind a dot that then ends a clause (`X is 1.` of `X is 1.5. `) looks whole: only a last
  * clause that was agreed on, as `end_of_file.`, tells those.
  *
- * Returns 1 if nothing but blanks, tabs, newlines, returns and whole comments stands behind the offset, else 0. It is no part of the archive, and is
- * tested, not proved: examples/run compares it with the token call. */
+ * Returns 1 if nothing but layout stands behind the offset, else 0: the clause that was cut off then starts at thrinvage_layout_end. It is tested, not
+ * proved, like that one. */
 static inline int thrinvage_only_layout(const uint8_t *text, size_t length, size_t offset) {
-    while (offset < length) {
-        uint8_t byte = text[offset++];
-        if (byte == ' ' || byte == '\t' || byte == '\n' || byte == '\r')
-            continue;
-        if (byte == '%') {
-            while (offset < length && text[offset] != '\n')
-                offset++;
-        } else if (byte == '/' && offset < length && text[offset] == '*') {
-            size_t close = offset + 1; /* of the first star that a slash follows */
-            while (close + 1 < length && !(text[close] == '*' && text[close + 1] == '/'))
-                close++;
-            if (close + 1 >= length)
-                return 0;
-            offset = close + 2;
-        } else {
-            return 0;
-        }
-    }
-    return 1;
+    return thrinvage_layout_end(text, length, offset) == length;
 }
 
 #ifdef __cplusplus

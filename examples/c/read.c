@@ -166,11 +166,9 @@ static void print_fault(const struct source *s, uint32_t number, size_t offset) 
     print_caret(s, offset);
 }
 
-/* Points at the clause's first token. It may be cut off itself, so the token call cannot say where it starts; the longest stretch of layout before it can. */
+/* Points at the clause's first token. It may be cut off itself, so the token call cannot say where it starts; the end of the layout before it can. */
 static void print_cut_off(const struct source *s, size_t offset) {
-    size_t start = s->length;
-    while (!thrinvage_only_layout(s->text, start, offset))
-        start--;
+    size_t start = thrinvage_layout_end(s->text, s->length, offset);
     print_place(s, start);
     puts("cut off: this clause has no end mark");
     print_caret(s, start);

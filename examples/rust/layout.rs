@@ -1,11 +1,13 @@
 //! Compares `only_layout_behind` with the token call, on every text of up to six bytes out of thirteen, and `Tokens::ended_whole` too. A newline and a
 //! comma are put behind the text: the comma is then the first token exactly if nothing but layout stands before it, and the token before the comma is an
-//! end mark, or there is none, exactly if the text was whole. Prints the counts; status 1 says that something differs.
+//! end mark, or there is none, exactly if the text was whole. At every offset `layout_end` is where the first token starts, or the text's length if that is
+//! the comma. Prints the counts; status 1 says that something differs.
 mod thrinvage;
 
 use std::process::ExitCode;
-use thrinvage::{Cursor, END_OF_TEXT, Kind, Scanner, next_token, only_layout_behind, tokens};
+use thrinvage::{Cursor, END_OF_TEXT, Kind, Scanner, layout_end, next_token, only_layout_behind, tokens};
 
+const FOREIGN_BYTE: u32 = 5; // the refusal of a byte outside ISO's characters, in comments too
 const LONGEST: usize = 6;
 const BYTES: &[u8] = b" \t\n\r%/*a0.'\\\x80";
 
@@ -44,6 +46,17 @@ fn whole_by_comma(longer: &[u8]) -> bool {
     false
 }
 
+/// Whether the layout at the cursor ends where the token call, with the two bytes behind the text, reads a token or refuses it. Refusals 1 and 5 do not
+/// say where that is: they point behind the token's start, or into a comment.
+fn ends_at_token(text: &[u8], longer: &[u8], at: Cursor) -> bool {
+    let start = match next_token(longer, at) {
+        Ok(token) => token.start,
+        Err(refusal) if [END_OF_TEXT, FOREIGN_BYTE].contains(&refusal.number) => return true,
+        Err(refusal) => refusal.offset,
+    };
+    layout_end(text, at) == start.min(text.len())
+}
+
 /// This text, and each that goes on from it.
 fn try_from(text: &mut Vec<u8>, counts: &mut Counts) {
     let longer = [text, b"\n,".as_slice()].concat();
@@ -52,6 +65,9 @@ fn try_from(text: &mut Vec<u8>, counts: &mut Counts) {
     counts.of_layout += layout as u64;
     counts.differ += (layout != by_function(text)) as u64;
     counts.differ += (whole_by_comma(&longer) != whole_by_iterator(text)) as u64;
+    for offset in 0..=text.len() {
+        counts.differ += !ends_at_token(text, &longer, Cursor { offset, ..Cursor::default() }) as u64;
+    }
     if text.len() < LONGEST {
         for byte in BYTES {
             text.push(*byte);

@@ -16,8 +16,8 @@ use std::io::{Error, Read, Result, Write, stdin, stdout};
 use std::process::ExitCode;
 use thrinvage::{Cursor, Kind, LINE_BYTES, LONGEST_TEXT, Part, Refusal, TREE_NUMBERS, Token, Value};
 use thrinvage::{
-    END_OF_TEXT, NO_TEXT, NOT_VALID, list_clause, next_number_token, next_token, next_token_text, only_layout_behind,
-    read_clause, tokens,
+    END_OF_TEXT, NO_TEXT, NOT_VALID, layout_end, list_clause, next_number_token, next_token, next_token_text,
+    only_layout_behind, read_clause, tokens,
 };
 
 fn kind_name(kind: Kind) -> &'static str {
@@ -182,10 +182,9 @@ fn print_fault(out: &mut impl Write, name: &str, text: &[u8], refusal: Refusal) 
     print_caret(out, text, refusal.offset)
 }
 
-/// Points at the clause's first token. It may be cut off itself, so the token call cannot say where it starts; the longest stretch of layout before it can.
+/// Points at the clause's first token. It may be cut off itself, so the token call cannot say where it starts; the end of the layout before it can.
 fn print_cut_off(out: &mut impl Write, name: &str, text: &[u8], at: Cursor) -> Result<()> {
-    let is_layout = |end: &usize| only_layout_behind(&text[..*end], at);
-    let start = (at.offset..text.len()).rev().find(is_layout).unwrap_or(at.offset);
+    let start = layout_end(text, at);
     print_place(out, name, text, start)?;
     writeln!(out, "cut off: this clause has no end mark")?;
     print_caret(out, text, start)

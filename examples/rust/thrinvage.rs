@@ -412,22 +412,29 @@ impl<'i, 'n> Unpacked<'i, 'n> {
     }
 }
 
-/// Whether nothing but layout stands behind the cursor: blanks, tabs, newlines, returns and whole comments. Where the clause, the line or the pack call
-/// is refused by 1 at this cursor, the text is whole exactly if this holds; else its last clause was cut off.
-pub fn only_layout_behind(text: &[u8], at: Cursor) -> bool {
+/// The offset of the first byte that is no layout, at the cursor or behind it; the text's length where there is none. Layout is blanks, tabs, newlines,
+/// returns and whole comments: a bracketed comment that is not closed is none, from its slash on.
+pub fn layout_end(text: &[u8], at: Cursor) -> usize {
     let mut rest = text.get(at.offset..).unwrap_or_default();
-    loop {
-        let behind = match rest {
-            [] => return true,
-            [b' ' | b'\t' | b'\n' | b'\r', behind @ ..] => Some(behind),
-            [b'%', comment @ ..] => behind_first(b"\n", comment).or(Some(&[])), // it may end with the text
-            [b'/', b'*', comment @ ..] => behind_first(b"*/", comment),
-            _ => None,
-        };
-        match behind {
-            Some(behind) => rest = behind,
-            None => return false,
-        }
+    while let Some(behind) = behind_layout(rest) {
+        rest = behind;
+    }
+    text.len() - rest.len()
+}
+
+/// Whether nothing but layout stands behind the cursor. Where the clause, the line or the pack call is refused by 1 at this cursor, the text is whole
+/// exactly if this holds; else its last clause, which starts at `layout_end`, was cut off.
+pub fn only_layout_behind(text: &[u8], at: Cursor) -> bool {
+    layout_end(text, at) == text.len()
+}
+
+/// Behind the one byte or the one comment of layout that the text starts with, if it does.
+fn behind_layout(text: &[u8]) -> Option<&[u8]> {
+    match text {
+        [b' ' | b'\t' | b'\n' | b'\r', behind @ ..] => Some(behind),
+        [b'%', comment @ ..] => behind_first(b"\n", comment).or(Some(&[])), // it may end with the text
+        [b'/', b'*', comment @ ..] => behind_first(b"*/", comment),
+        _ => None,
     }
 }
 
