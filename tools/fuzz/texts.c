@@ -66,6 +66,13 @@ static const char *const oddities[] = {"9223372036854775808", "1.0e23", "1.0e400
                                        "'a\nb'", "'a\tb'", "'a\\\r\nb'", "'\\q'", "'\\x41'", "0''", "0x", "0b2", "`a`", "\x01", "\x80", "\r", "\x00z", "/*", "/* a", "'a", "\"a",
                                        "||", "|", "a.b", "1.e", "1.0e", "1.0e+", "....", "f()", "[|]", "- (1)", "-1", "- 1", "{}(a)", ",", ")", "%"};
 
+/* What the grammar does not have, or has in some places only. */
+static const char *const misfits[] = {"X(a)", "1(a)", "\"s\"(a)", "(a)(b)", "f(a)(b)", "f()", "f(,)", "f(a,)", "f(a :- b)", "f(a | b)", "(a | b)", "(-, a)",
+                                      "(-)", "f(-, :-)", "[-|-]", "[a|b, c]", "[a|b|c]", "[|a]", "[a,]", "{}(a)", "{- , a}", "{-}", "a = \\+ b", "a = \\+(b)",
+                                      "2 ** - 1", "2 ** -1", "2 ** -(1)", "- = a", "= =", "- - -", ":- :- a", "a=b=c", "a:-b:-c", "a**b**c", "- (1)", "- 1 2",
+                                      "\\+ (a :- b)", "\\+(a :- b)", "\\+ (a, b)", "is is is", "a mod", "mod a", "a b", "a 'b' c", "(a", "a)", "[a", "a]",
+                                      "{a", "a}", "(a]", "[a)", "a || b", "'|'", "','"};
+
 static void add_piece(struct random *random, struct text *text)
 {
     static const char *const marks[] = {"(", ")", "[", "]", "{", "}", ",", "|", "||"};
@@ -95,8 +102,13 @@ static void add_terms(struct random *random, struct text *text, int depth)
     add_term(random, text, depth);
 }
 
+/* Now and then one that cannot stand there: so clauses are refused by 11 far in, too. */
 static void add_plain(struct random *random, struct text *text)
 {
+    if (random_one_in(random, 40)) {
+        add_word(text, PICK(random, misfits));
+        return;
+    }
     switch (random_below(random, 4)) {
     case 0: add_word(text, PICK(random, variables)); break;
     case 1: add_word(text, PICK(random, numbers)); break;
@@ -223,6 +235,23 @@ static void make_full_clause(struct random *random, struct text *text)
     add_word(text, "a. ");
 }
 
+/* One about as long that is refused at its end, most of them; half as long too, so that its brackets can be closed. */
+static void make_full_misfit(struct random *random, struct text *text)
+{
+    enum { MOST_TOKENS = 1024 };
+    static const struct {
+        const char *word;
+        size_t tokens;
+    } words[] = {{"- ", 1}, {"\\+ ", 1}, {"(", 1}, {"[", 1}, {"{", 1}, {"a,", 2}, {"a-", 2}, {"f(", 2}, {"-(", 2}, {"[a|", 3}};
+    static const char *const lasts[] = {". ", "a. ", "- . ", "= . ", "a b. ", "a) . ", "a] . ", ", . ", "X(a). ", "a = . ", "a :- . "};
+    size_t which = random_below(random, sizeof words / sizeof *words);
+    size_t share = words[which].tokens * (1 + random_below(random, 2));
+    text->length = 0;
+    for (size_t more = MOST_TOKENS / share - random_below(random, 6); more > 0; more--)
+        add_word(text, words[which].word);
+    add_word(text, PICK(random, lasts));
+}
+
 /* A clause many lines down, up to where a text may end: its line is as large as one may be. */
 static void make_late_clause(struct random *random, struct text *text)
 {
@@ -274,7 +303,7 @@ void make_text(struct random *random, struct text *text)
 {
     size_t length = some_length(random);
     if (random_one_in(random, 150)) {
-        static void (*const makers[])(struct random *, struct text *) = {make_long_clause, make_long_clause, make_full_clause, make_late_clause};
+        static void (*const makers[])(struct random *, struct text *) = {make_long_clause, make_long_clause, make_full_clause, make_full_misfit, make_late_clause};
         PICK(random, makers)(random, text);
         return;
     }
