@@ -1,6 +1,7 @@
 /* Calls the archive with random texts, packs, cursors and rooms, each call twice in two places, and looks at all that comes back. See tools/README.md.
  * usage: fuzz [--seconds N] [--seed N] [--round N] [--place N] FILE..    (FILEs of Prolog, parts of which are among the texts) */
 #include "images.h"
+#include "no_reading.h"
 #include "packs.h"
 #include "report.h"
 #include "slice.h"
@@ -134,6 +135,18 @@ static bool is_at_start(enum call call, uint32_t number)
     return number == THRINVAGE_NOT_VALID || (is_packing(call) && (number == THRINVAGE_TOO_LONG || number == THRINVAGE_NO_ROOM));
 }
 
+/* The clause calls' refusals at the clause's first token; 11 has its own place (no_reading.c). */
+static bool is_at_first_token(enum call call, uint32_t number)
+{
+    return call >= READ && (number == THRINVAGE_TOO_MANY_TOKENS || (number == THRINVAGE_NO_ROOM && !is_packing(call)));
+}
+
+static bool is_first_token(struct cursor at, size_t start)
+{
+    struct thrinvage_token token;
+    return thrinvage_next_token(now_text.bytes, now_text.length, at.offset, at.line, at.column, &token) == THRINVAGE_READ && token.start == start;
+}
+
 static void check_refused(const struct running *asked, const struct given *given)
 {
     const uint64_t *fields = given->record.fields;
@@ -144,6 +157,8 @@ static void check_refused(const struct running *asked, const struct given *given
     must(given->number != THRINVAGE_NOT_VALID || !is_valid(asked->at), "a valid text and cursor are refused as not valid");
     must(fields[REFUSED_AT_FIELD] <= now_text.length, "a refusal points behind the text");
     must(!is_at_start(asked->call, given->number) || fields[REFUSED_AT_FIELD] == 0, "a refusal points elsewhere than at 0");
+    bool first = !is_at_first_token(asked->call, given->number) || is_first_token(asked->at, fields[REFUSED_AT_FIELD]);
+    must(first, "refusal 9 or 10 points elsewhere than at the clause's first token");
     for (size_t i = 0; i < record_size(asked->call) / sizeof *fields; i++)
         must(i == REFUSED_AT_FIELD || fields[i] == filled, "a refusal writes another field of the record");
     must(is_untouched(given, 0, lent_size(asked)), "a refusal writes to the lent slice");
@@ -431,6 +446,8 @@ static void call_the_others(struct random *random, const struct copies *copies, 
     call_twice(random, copies, TEXT, at, some_room(random), &given);
     check_text_beside_token(token, &given);
     call_twice(random, copies, READ, at, some_room(random), &given);
+    if (given.number == THRINVAGE_NO_READING)
+        check_no_reading(random, &now_text, at, given.record.clause.refused_at);
     call_twice(random, copies, LIST, at, some_room(random), &other);
     check_line_beside_tree(&given, &other);
     call_pack(random, copies, PACK, at);

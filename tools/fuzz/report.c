@@ -9,10 +9,14 @@ static const char *const call_names[CALLS] = {"next_token",         "next_number
                                               "pack_clause_form_2", "pack_nodes",        "pack_nodes_form_2", "unpack",      "unpack_either",
                                               "move_up",            "move_down"};
 
+static const char *const kind_names[] = {"name", "variable", "string", "number", "(", "( right behind", ")", "[", "]", "{", "}", "|", "||", "comma", "end mark"};
+enum { KINDS = sizeof kind_names / sizeof *kind_names };
+
 uint64_t seed, now_round;
 struct running running;
 
 static uint64_t counts[CALLS][REFUSALS];
+static uint64_t pointed[KINDS], not_completed;
 
 static void show_bytes(void)
 {
@@ -52,6 +56,23 @@ void count_answers(uint32_t number)
     counts[running.call][number] += 2;
 }
 
+void count_pointed(uint64_t kind, bool completed)
+{
+    pointed[kind] += 1;
+    not_completed += !completed;
+}
+
+static void show_pointed(void)
+{
+    uint64_t sum = 0;
+    for (int kind = 0; kind < KINDS; kind++)
+        sum += pointed[kind];
+    printf("refusal 11 by its definition: %llu clauses (%llu too long to be completed), at", (unsigned long long)sum, (unsigned long long)not_completed);
+    for (int kind = 0; kind < KINDS; kind++)
+        printf("%s %s %llu", kind > 0 ? "," : "", kind_names[kind], (unsigned long long)pointed[kind]);
+    printf("\n");
+}
+
 /* Those between are of calls that there are not. */
 static int next_number(int number)
 {
@@ -74,6 +95,7 @@ uint64_t show_counts(void)
         }
         printf("\n");
     }
+    show_pointed();
     printf("%llu calls in %llu rounds, seed %llu, 0 faults\n", (unsigned long long)sum, (unsigned long long)now_round, (unsigned long long)seed);
     return sum;
 }

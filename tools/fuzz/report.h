@@ -35,6 +35,9 @@ void show_case(void);
 /* Of the two calls that must answer alike. */
 void count_answers(uint32_t number);
 
+/* Of a refusal 11 that was looked at by its definition: the kind of the token that it points at, and whether the tokens before it were completed to a clause. */
+void count_pointed(uint64_t kind, bool completed);
+
 /* The number of calls; a run without any shows nothing. */
 uint64_t show_counts(void);
 
