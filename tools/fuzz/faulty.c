@@ -262,6 +262,100 @@ static bool lists_no_clause_and_says_3(struct done *done)
     return done->call == LIST && done->number == THRINVAGE_NO_READING && (done->number = 3, true);
 }
 
+/* ---- where the clause calls' refusals point, and that 11 comes last */
+
+uint32_t __real_thrinvage_next_token(const uint8_t *text, size_t length, size_t offset, size_t line, size_t column, struct thrinvage_token *token);
+
+/* Starts of a clause's tokens: the first and the second, those on both sides of the one that is pointed at, or that one, and the last, the end mark's. */
+struct starts {
+    uint64_t first, second, before, behind, last;
+};
+
+static void note_start(struct starts *starts, size_t index, uint64_t pointed, uint64_t start)
+{
+    if (index == 0)
+        *starts = (struct starts){start, start, start, start, start};
+    else if (index == 1)
+        starts->second = start;
+    if (start < pointed)
+        starts->before = start;
+    if (starts->last <= pointed)
+        starts->behind = start;
+    starts->last = start;
+}
+
+/* As far as the tokens are read and a clause may have them. */
+static struct starts find_starts(const struct done *done)
+{
+    struct starts starts = {0};
+    struct thrinvage_token token = {.offset = done->offset, .line = done->line};
+    for (size_t i = 0; i < THRINVAGE_MOST_TOKENS && token.kind != THRINVAGE_END; i++) {
+        if (__real_thrinvage_next_token(done->text, done->length, token.offset, token.line, 0, &token) != THRINVAGE_READ)
+            break;
+        note_start(&starts, i, done->record[REFUSED_AT], token.start);
+    }
+    return starts;
+}
+
+/* Whether it is another place than the true one. */
+static bool points_at(struct done *done, uint64_t start)
+{
+    return done->record[REFUSED_AT] != start && (done->record[REFUSED_AT] = start, true);
+}
+
+static bool is_11(const struct done *done)
+{
+    return done->number == THRINVAGE_NO_READING;
+}
+
+/* As it was before 11 pointed at the token that cannot stand. */
+static bool points_11_at_the_first_token(struct done *done)
+{
+    return is_11(done) && points_at(done, find_starts(done).first);
+}
+
+static bool points_11_a_token_early(struct done *done)
+{
+    return is_11(done) && points_at(done, find_starts(done).before);
+}
+
+static bool points_11_a_token_late(struct done *done)
+{
+    return is_11(done) && points_at(done, find_starts(done).behind);
+}
+
+static bool points_11_a_byte_late(struct done *done)
+{
+    return is_11(done) && points_at(done, done->record[REFUSED_AT] + 1);
+}
+
+static bool points_11_at_the_end_mark(struct done *done)
+{
+    return is_11(done) && points_at(done, find_starts(done).last);
+}
+
+/* As a reader would that stops at the first token that cannot stand. */
+static bool says_11_where_a_token_is_refused(struct done *done)
+{
+    bool is_refused = done->number >= THRINVAGE_UNCLOSED_COMMENT && done->number <= THRINVAGE_OUT_OF_LIMIT;
+    return is_refused && (done->number = THRINVAGE_NO_READING, points_at(done, find_starts(done).first), true);
+}
+
+static bool says_11_where_there_are_too_many_tokens(struct done *done)
+{
+    return done->number == THRINVAGE_TOO_MANY_TOKENS && (done->number = THRINVAGE_NO_READING, true);
+}
+
+static bool points_9_at_the_second_token(struct done *done)
+{
+    return done->number == THRINVAGE_NO_ROOM && points_at(done, find_starts(done).second);
+}
+
+static bool points_10_at_the_second_token(struct done *done)
+{
+    return done->number == THRINVAGE_TOO_MANY_TOKENS && points_at(done, find_starts(done).second);
+}
+
 /* ---- in the calls for packs */
 
 static bool is_refused(const struct done *done)
@@ -490,8 +584,6 @@ static bool gives_the_line_behind_the_clause(struct done *done)
     return is_read(done) && gives_line(done, done->record[LINE] + 1);
 }
 
-uint32_t __real_thrinvage_next_token(const uint8_t *text, size_t length, size_t offset, size_t line, size_t column, struct thrinvage_token *token);
-
 static bool gives_the_line_behind_the_first_token(struct done *done)
 {
     struct thrinvage_token token;
@@ -680,13 +772,16 @@ static bool is_told_of_more_nodes(struct done *done)
     return done->nodes != NULL;
 }
 
-/* Of the calls that have no part in packs, all; else one call alone. */
+/* Of the calls that have no part in packs, all; of those that read a clause, all at once, as they have one reader; else one call alone. */
+enum { CLAUSE_CALLS = CALLS + 1 };
 #define FAULT(name) {#name, name, CALLS}
+#define FAULT_AT_ONCE(name) {#name "_in_all_clause_calls", name, (enum call)CLAUSE_CALLS}
 #define FAULT_IN(call, name) {#name "_in_" #call, name, call}
 #define FAULT_IN_PACKING(name) FAULT_IN(PACK, name), FAULT_IN(PACK_2, name)
 #define FAULT_IN_NODES(name) FAULT_IN(NODES, name), FAULT_IN(NODES_2, name)
 #define FAULT_IN_UNPACKING(name) FAULT_IN(UNPACK, name), FAULT_IN(EITHER, name)
 #define FAULT_IN_MOVING(name) FAULT_IN(UP, name), FAULT_IN(DOWN, name)
+#define FAULT_IN_CLAUSES(name) FAULT_IN(READ, name), FAULT_IN(LIST, name), FAULT_IN_PACKING(name)
 #define FAULT_IN_EACH(name) FAULT_IN_PACKING(name), FAULT_IN_NODES(name), FAULT_IN_UNPACKING(name), FAULT_IN_MOVING(name)
 
 static const struct fault {
@@ -737,6 +832,24 @@ static const struct fault {
     FAULT(lists_no_clause_and_says_3),
     FAULT(is_told_of_a_longer_text),
     FAULT(is_told_of_more_room),
+    /* refusals 9, 10 and 11 of the clause calls */
+    FAULT_IN_CLAUSES(points_11_at_the_first_token),
+    FAULT_IN_CLAUSES(points_11_a_token_early),
+    FAULT_IN_CLAUSES(points_11_a_token_late),
+    FAULT_IN_CLAUSES(points_11_a_byte_late),
+    FAULT_IN_CLAUSES(points_11_at_the_end_mark),
+    FAULT_AT_ONCE(points_11_at_the_first_token),
+    FAULT_AT_ONCE(points_11_a_token_early),
+    FAULT_AT_ONCE(points_11_a_token_late),
+    FAULT_AT_ONCE(points_11_a_byte_late),
+    FAULT_AT_ONCE(points_11_at_the_end_mark),
+    FAULT_AT_ONCE(says_11_where_a_token_is_refused),
+    FAULT_AT_ONCE(says_11_where_there_are_too_many_tokens),
+    FAULT_IN(READ, points_9_at_the_second_token),
+    FAULT_IN(LIST, points_9_at_the_second_token),
+    FAULT_IN_CLAUSES(points_10_at_the_second_token),
+    FAULT_AT_ONCE(points_10_at_the_second_token),
+    /* packs */
     FAULT_IN_EACH(reads_past_the_text),
     FAULT_IN_EACH(reads_before_the_text),
     FAULT_IN_NODES(reads_past_the_nodes),
@@ -848,8 +961,15 @@ enum { FAULTS = sizeof faults / sizeof *faults };
 
 static const struct fault *fault = faults;
 
+static bool is_in_all_clause_calls(void)
+{
+    return fault->only == (enum call)CLAUSE_CALLS;
+}
+
 static bool is_in(enum call call)
 {
+    if (is_in_all_clause_calls())
+        return call >= READ && call <= PACK_2;
     return fault->only == CALLS ? call < PACK : call == fault->only;
 }
 
@@ -868,9 +988,11 @@ __attribute__((constructor)) static void choose_fault(void)
 }
 
 /* One call in eight, the same ones whenever they come: only so do the checks of a single answer have to notice it. What is about as long as may be is rare:
- * of that all. */
+ * of that all. Where all clause calls have the fault, each answer has it, so that none of them shows it by another answer. */
 static bool strikes(const struct done *done)
 {
+    if (is_in_all_clause_calls())
+        return true;
     uint64_t mixed = (done->length * 31 + done->offset * 7 + done->lent_size * 3 + (uint64_t)done->call) * 0x9e3779b97f4a7c15u;
     return mixed >> 61 == 0 || done->number == THRINVAGE_TOO_LONG || done->length > 65500 || done->lent_size > 65500;
 }
