@@ -65,7 +65,7 @@ enum thrinvage_refusal {
     THRINVAGE_NOT_VALID = 8,        /* the text is longer than 65,535 bytes, or the cursor is not valid (below); at 0 */
     THRINVAGE_NO_ROOM = 9,          /* too short: the scratch, at the token; the tree or the line, at the clause's first; an image or its nodes, at 0 */
     THRINVAGE_TOO_MANY_TOKENS = 10, /* 1,024 tokens, none an end mark; at the first */
-    THRINVAGE_NO_READING = 11,      /* the clause has no reading; at the first token that cannot stand: no clause begins with the tokens up to it and it */
+    THRINVAGE_NO_READING = 11,      /* no reading; at the first token that cannot stand: no clause begins with the tokens up to and including it */
     THRINVAGE_NO_TEXT = 12,         /* the token is no name, variable or string; at it */
     THRINVAGE_TOO_LONG = 13,        /* an image's body would pass 65,535 bytes; at 0 */
     THRINVAGE_NO_PACK = 14,         /* the bytes are no image, or the nodes are none that an image can have (below); at 0 */

@@ -68,7 +68,7 @@ pub struct Token {
 pub struct Refusal {
     pub number: u32,
     /// At a token, at a byte, or 0 where no place in a text is meant: the header says it for each number. Number 11 points at the first token that cannot
-    /// stand: no clause begins with the tokens up to it and it. `read.rs` shows the line and the column there.
+    /// stand: no clause begins with the tokens up to and including it. `read.rs` shows the line and the column there.
     pub offset: usize,
 }
 
