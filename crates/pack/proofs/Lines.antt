@@ -112,7 +112,7 @@ module _ (s : List ℕ) (c : Cursor) (o : ℕ) (l : c .offset ≤ o) (h : True s
   move-true : o ≤ length s → True s (moveTo s c o)
   move-true i = line-true ∙ ap (λ (n : ℕ). newlines (take n s)) (sym (move-offset s c o l i))
 
--- of tokens that were gathered, the cursor behind the last one
+-- so is the cursor's behind tokens that were gathered
 module _ (s : List ℕ) (c : Cursor) (n : ℕ) (ts : List Token) (e : Cursor) (i : c .offset ≤ length s) (h : True s c)
     (next : (d : Cursor) (us : List Token) → d .offset ≤ length s → True s d → gather n s d ≡ whole us e → True s e) where
   one-lexeme : (x : Lexeme) → readLexeme false s (c .offset) ≡ x → onward s c x (λ d. gather n s d) ≡ whole ts e → True s e

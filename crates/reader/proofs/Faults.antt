@@ -87,7 +87,7 @@ module _ (s : List ℕ) (c : Cursor) (ts : List Token) (e : Cursor) (g : clauseT
   abbrev Found : List Token → Type 0
   Found us = (t : Token) × FirstFault operators us t × (t .start ≡ latestFrom start 0 0 us)
 
-  pub first-fault : ((t : Tree) → Reads operators ts t → ⊥) → (t : Token) × FirstFault operators ts t × (t .start ≡ latestFrom start 0 0 ts)
+  pub first-fault : ((t : Tree) → Reads operators ts t → ⊥) → Found ts
   first-fault n =
       let m = gathered-marked mostTokens s c ts e g in
       let us = m .front ++ (m .last ∷ []) in

@@ -84,7 +84,7 @@ pub data Result : Type 0 where
 abbrev pub latest : State → ℕ → ℕ → ℕ
 latest z a at = cond (isDead z) a at
 
--- the same of what the code keeps
+-- whether it is dead, by what the code keeps of it
 abbrev pub deadMode : Mode → Bool
 deadMode (Want p) = false
 deadMode (Pend p q) = false
