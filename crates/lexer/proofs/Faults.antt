@@ -22,7 +22,7 @@ use Rattle.lexer.specs.Refusal.{fault}
 use Rattle.lexer.specs.Token.{mark, barTo, pointTo, soloTo, floated, valued, numbered, plainToken, plainNumber, plain, Lexeme, lexeme, refused, plainLexeme, quotedTo, quotedLexeme, lexemeTo, afterLayout, readLexeme, answered, notValid, call}
 use Rattle.lexer.specs.declared.refusal.Fault.{Fault}
 use Rattle.lexer.specs.declared.refusal.Refusal.{Refusal}
-use Rattle.lexer.specs.declared.refusal.Refusal.the-variants.{EndOfText, UnclosedComment, NoToken, BadQuoted, ForeignByte, SetAside, OutOfLimit, NotValid, NoRoom, TooManyTokens, NoReading, NoText, TooLong, NoPack, UnknownVersion}
+use Rattle.lexer.specs.declared.refusal.Refusal.the-variants.{EndOfText, UnclosedComment, NoToken, BadQuoted, ForeignByte, SetAside, OutOfLimit, NotValid, NoRoom, TooManyTokens, NoReading, NoText, TooLong, NoPack, TokenTooLong, UnknownVersion}
 use Rattle.lexer.specs.declared.chars.Peek.{Peek}
 use Rattle.lexer.specs.declared.chars.Look.{Look}
 use Rattle.lexer.specs.declared.cursor.Cursor.{Cursor}
@@ -87,6 +87,7 @@ PlacedAt s c o NoReading = ⊥
 PlacedAt s c o NoText = ⊥
 PlacedAt s c o TooLong = ⊥
 PlacedAt s c o NoPack = ⊥
+PlacedAt s c o TokenTooLong = ⊥
 PlacedAt s c o UnknownVersion = ⊥
 
 -- a refusal points where the table says
@@ -323,7 +324,7 @@ module _ (s : List ℕ) (c : Cursor) where
       character-placed : (i : Item) → OfItem i → OfNumber (characterCode at i)
       unfolding characterCode
       character-placed (Item.Char b e) p = tt
-      character-placed (Item.Beyond e) p = h
+      character-placed (Item.Beyond e) p = tt
       character-placed (Item.Skip e) p = h
       character-placed (Item.Close e) p = tt
       character-placed (Item.Refused w) p = p

@@ -25,7 +25,7 @@ use Rattle.lexer.specs.declared.number.NumberToken.the-variants.{Whole, 
 use Rattle.lexer.proofs.Bases.{held-from, digits-end, digits-some, digits-plain}
 use Rattle.lexer.proofs.Cursors.{both}
 use Rattle.lexer.proofs.Looks.{Seen, peek-end, peek-byte}
-use Rattle.lexer.proofs.QuotedItems.{char-ends}
+use Rattle.lexer.proofs.QuotedItems.{char-ends, beyond-ends}
 use Rattle.lexer.proofs.Spans.{by-test, not-newline, Plain, plain-char, plain-step, plain-on, plain-digits}
 
 -- ---- what is held of a number depends only on what is held of its digits
@@ -205,7 +205,7 @@ module _ (s : List ℕ) (at : ℕ) where
       character-ends : (i : Item) → quotedItem singleQuote at s (at + 2) ≡ i → EndsOf s at (characterCode at i)
       unfolding characterCode
       character-ends (Item.Char b e) f = integer b e (plain-on s at (at + 2) letter e (char-ends singleQuote s (at + 2) at e b f))
-      character-ends (Item.Beyond e) f = tt
+      character-ends (Item.Beyond e) f = integer beyond e (plain-on s at (at + 2) letter e (beyond-ends singleQuote s (at + 2) at e f))
       character-ends (Item.Skip e) f = tt
       character-ends (Item.Close e) f = integer _ _ nought
       character-ends (Item.Refused w) f = tt

@@ -9,7 +9,7 @@ use Rattle.lexer.specs.Digits.{isDigit, digitsAt, beyond}
 use Rattle.lexer.specs.Look.{peek, lookahead}
 use Rattle.lexer.specs.Quoted.{quotedItem}
 use Rattle.lexer.specs.Refusal.{fault}
-use Rattle.lexer.specs.declared.refusal.Refusal.the-variants.{ForeignByte, SetAside, OutOfLimit}
+use Rattle.lexer.specs.declared.refusal.Refusal.the-variants.{ForeignByte, SetAside}
 use Rattle.lexer.specs.declared.chars.Peek.{Peek}
 use Rattle.lexer.specs.declared.chars.Peek.the-variants.{Byte, Foreign, End}
 use Rattle.lexer.specs.declared.chars.Look.{Look}
@@ -44,7 +44,7 @@ radixConstant base s at = radixTo base s at (lookahead s (at + 2))
 -- 6.4.4: character code constant: 0, a quote and a single quoted character. -- departs: a quote that is not doubled gives 0, both quotes put back
 unfoldable pub characterCode : ℕ → Item → NumberToken
 characterCode at (Item.Char b e) = Whole (Integer b) e
-characterCode at (Item.Beyond e) = Refused (fault OutOfLimit at)
+characterCode at (Item.Beyond e) = Whole (Integer beyond) e
 characterCode at (Item.Skip e) = Refused (fault SetAside at)
 characterCode at (Item.Close e) = Whole (Integer 0) (at + 1)
 characterCode at (Item.Refused w) = Refused w
@@ -131,6 +131,12 @@ integerTo s at d (Byte x) =
 -- 6.4.4, 6.4.5: integer constant, float number token, and the constants that begin with 0
 abbrev pub numberToken : List ℕ → ℕ → NumberToken
 numberToken s at = integerTo s at (digitsAt 10 0 s at) (peek s (digitsAt 10 0 s at .end))
+
+-- where a number ends, whatever its value; 0 where it is refused
+unfoldable pub numberEnd : NumberToken → ℕ
+numberEnd (Whole n e) = e
+numberEnd (Partial n e) = e
+numberEnd (Refused w) = 0
 
 -- ---- what the code holds of it: no value above `beyond`
 unfoldable pub heldExponent : Exponent → Exponent

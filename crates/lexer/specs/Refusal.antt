@@ -1,7 +1,7 @@
 -- Refusals and their numbers: 01, "Refusal numbers", and what 02 adds. Definitions only.
 use Prim.Native.Nat.{ℕ}
 use Rattle.lexer.specs.declared.refusal.Refusal.{Refusal}
-use Rattle.lexer.specs.declared.refusal.Refusal.the-variants.{EndOfText, UnclosedComment, NoToken, BadQuoted, ForeignByte, SetAside, OutOfLimit, NotValid, NoRoom, TooManyTokens, NoReading, NoText, TooLong, NoPack, UnknownVersion}
+use Rattle.lexer.specs.declared.refusal.Refusal.the-variants.{EndOfText, UnclosedComment, NoToken, BadQuoted, ForeignByte, SetAside, OutOfLimit, NotValid, NoRoom, TooManyTokens, NoReading, NoText, TooLong, NoPack, TokenTooLong, UnknownVersion}
 use Rattle.lexer.specs.declared.refusal.Fault.{Fault}
 
 -- the number of each refusal
@@ -21,6 +21,8 @@ numberOf NoText = 12
 -- 02, request 2
 numberOf TooLong = 13
 numberOf NoPack = 14
+-- 02, request 3
+numberOf TokenTooLong = 15
 -- 02, request 13
 numberOf UnknownVersion = 18
 

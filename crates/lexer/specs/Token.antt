@@ -207,6 +207,10 @@ notValid = fault NotValid 0
 abbrev pub call : Bool → List ℕ → Cursor → Answer
 call field s c = cond (valid (length s) c) (answered s c (readLexeme field s (c .offset))) (Answer.Refused notValid c)
 
+-- the token at a cursor, where no layout is passed over; `layout` says whether layout stands before it
+abbrev pub tokenHere : Bool → List ℕ → Cursor → Answer
+tokenHere layout s c = cond (valid (length s) c) (answered s c (lexemeTo false s (c .offset) layout (lookahead s (c .offset)))) (Answer.Refused notValid c)
+
 -- the token call, and the number call
 abbrev pub nextToken : List ℕ → Cursor → Answer
 nextToken s c = call false s c

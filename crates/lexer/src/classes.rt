@@ -37,7 +37,7 @@ pub(crate) fn is_alphabetic(b: u8) -> bool
     is_in(0x0, 0x7fffffe87fffffe, b)
 }
 
-pub(crate) fn is_digit(b: u8) -> bool
+pub fn is_digit(b: u8) -> bool
     ensures { λ r. ⌜ r ≡ is decimalDigit b ⌝ }
 {
     match b {
@@ -61,7 +61,7 @@ pub(crate) fn is_graphic(b: u8) -> bool
 }
 
 // Tab, newline, carriage return and space.
-pub(crate) fn is_layout(b: u8) -> bool
+pub fn is_layout(b: u8) -> bool
     ensures { λ r. ⌜ r ≡ is layoutChar b ⌝ }
 {
     match b {
@@ -85,7 +85,7 @@ pub(crate) fn is_quote(b: u8) -> bool
 }
 
 // In no class of ISO's: neither layout nor a printable byte.
-pub(crate) fn is_foreign(b: u8) -> bool
+pub fn is_foreign(b: u8) -> bool
     ensures { λ r. ⌜ r ≡ is foreignByte b ⌝ }
 {
     match b {

@@ -41,7 +41,7 @@ pub fn is_valid(n: usize, c: Cursor) -> bool
 }
 
 // Past one character.
-pub(crate) fn skip_char(c: Cursor, b: u8) -> Cursor
+pub fn skip_char(c: Cursor, b: u8) -> Cursor
     requires { ⌜ Movable c ⌝ }
     ensures { λ r. ⌜ r ≡ step c b ⌝ }
 {

@@ -3,6 +3,7 @@ use crate::chars::Look;
 use crate::chars::Peek;
 use crate::chars::lookahead_char;
 use crate::chars::peek_char;
+use crate::digits::BEYOND;
 use crate::digits::Digits;
 use crate::digits::digit;
 use crate::digits::read_digits;
@@ -18,7 +19,7 @@ ghost use Rattle.lexer.specs.Look.{peek};
 ghost use Rattle.lexer.specs.Refusal.{fault};
 ghost use Rattle.lexer.specs.declared.refusal.Refusal.the-variants.{ForeignByte};
 ghost use Rattle.lexer.specs.declared.chars.Peek.{Peek};
-ghost use Rattle.lexer.specs.Number.{radixConstant, characterCodeConstant, zeroTo, exponentDigits, signTo, letterTo, exponent, float, fraction, pointTo, integerTo, numberToken, heldExponent, heldNumber, Radix, Read, Led};
+ghost use Rattle.lexer.specs.Number.{radixConstant, characterCodeConstant, zeroTo, exponentDigits, signTo, letterTo, exponent, float, fraction, pointTo, integerTo, numberToken, numberEnd, heldExponent, heldNumber, Radix, Read, Led};
 
 // What a number's digits say: an integer; or all digits of a float, whether its exponent has a minus, the exponent, and how many digits are the
 // fraction's.
@@ -103,10 +104,7 @@ fn character_code_constant(text: &[u8], zero: usize) -> NumberToken
 {
     match quoted_item(text, zero + 2, b'\'', zero) {
         Item::Char { code, next } => integer(wide(code), next),
-        Item::Beyond { next: _ } => NumberToken::Refused(Fault {
-            refusal: Refusal::OutOfLimit,
-            offset: zero,
-        }),
+        Item::Beyond { next } => integer(BEYOND, next),
         Item::Skip { next: _ } => NumberToken::Refused(Fault {
             refusal: Refusal::SetAside,
             offset: zero,
@@ -305,4 +303,24 @@ pub(crate) fn number_token(text: &[u8], at: usize) -> NumberToken
         Peek::Foreign => NumberToken::Refused(foreign_byte(end)),
         Peek::Byte(b) => integer_led(text, at, whole, b),
     }
+}
+
+fn end_of(number: NumberToken) -> usize
+    ensures { λ r. ⌜ r ≡ numberEnd number ⌝ }
+{
+    match number {
+        NumberToken::Whole { numeral: _, end } => end,
+        NumberToken::Partial { numeral: _, end } => end,
+        NumberToken::Refused(_) => 0,
+    }
+}
+
+// Where the number at `at` ends, whatever its value; 0 where it is refused.
+pub fn number_end(text: &[u8], at: usize) -> usize
+    ensures { λ r. ⌜ r ≡ numberEnd (numberToken (now (text .entry)) at) ⌝ }
+{
+    if text.len() <= at {
+        return at;
+    }
+    end_of(number_token(text, at))
 }

@@ -17,6 +17,7 @@ pub enum Refusal {
     NoText,
     TooLong,
     NoPack,
+    TokenTooLong,
     UnknownVersion,
 }
 
@@ -45,6 +46,7 @@ pub fn refusal_number(refusal: Refusal) -> u8
         Refusal::NoText => 12,
         Refusal::TooLong => 13,
         Refusal::NoPack => 14,
+        Refusal::TokenTooLong => 15,
         Refusal::UnknownVersion => 18,
     }
 }

@@ -43,7 +43,7 @@ ghost use Rattle.lexer.specs.declared.kind.Value.{Value};
 ghost use Rattle.lexer.specs.Number.{numberToken};
 ghost use Rattle.lexer.specs.Quoted.{decode};
 ghost use Rattle.lexer.specs.Look.{lookahead};
-ghost use Rattle.lexer.specs.Token.{mark, barToken, endToken, valued, numbered, plainToken, plain, textOf, kept, plainLexeme, quotedTo, quotedLexeme, lexemeTo, readLexeme, answered, notValid, call, nextToken, nextNumberToken, spelledTo, found, At, AtDigit, Unmarked, Symbolic, Begins, Passing};
+ghost use Rattle.lexer.specs.Token.{mark, barToken, endToken, valued, numbered, plainToken, plain, textOf, kept, plainLexeme, quotedTo, quotedLexeme, lexemeTo, readLexeme, answered, notValid, call, tokenHere, nextToken, nextNumberToken, spelledTo, found, At, AtDigit, Unmarked, Symbolic, Begins, Passing};
 
 // A token, whose span ends where the cursor behind it stands.
 pub struct Token {
@@ -443,6 +443,44 @@ fn answer_in(text: &[u8], cursor: Cursor, field: bool) -> Answer
 {
     if is_valid(text.len(), cursor) {
         answer_at(text, cursor, field)
+    } else {
+        Answer::Refused {
+            fault: not_valid(),
+            cursor,
+        }
+    }
+}
+
+// The token at a valid cursor.
+fn answer_here(text: &[u8], cursor: Cursor, layout: bool) -> Answer
+    requires { ⌜ Valid (length (now text)) cursor ⌝ }
+    ensures { λ r. ⌜ r ≡ answered (now (text .entry)) cursor (lexemeTo false (now (text .entry)) (cursor .offset) layout (lookahead (now (text .entry)) (cursor .offset))) ⌝ }
+{
+    match token_at(text, cursor, layout, false) {
+        Found::Refused(fault) => Answer::Refused { fault, cursor },
+        Found::Whole {
+            offset,
+            token,
+            line,
+            spelling: _,
+            column,
+        } => Answer::Read {
+            token,
+            next: Cursor {
+                offset,
+                line,
+                column,
+            },
+        },
+    }
+}
+
+// The token at the cursor, where no layout is passed over; `layout` says whether layout stands before it.
+pub fn token_here(text: &[u8], cursor: Cursor, layout: bool) -> Answer
+    ensures { λ r. ⌜ r ≡ tokenHere layout (now (text .entry)) cursor ⌝ }
+{
+    if is_valid(text.len(), cursor) {
+        answer_here(text, cursor, layout)
     } else {
         Answer::Refused {
             fault: not_valid(),

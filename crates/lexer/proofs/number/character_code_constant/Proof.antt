@@ -9,7 +9,7 @@ use Rattle.lexer.specs.Number.{characterCode, characterCodeConstant, hel
 use Rattle.lexer.specs.Quoted.{quotedItem}
 use Rattle.lexer.specs.Refusal.{fault}
 use Rattle.lexer.specs.declared.refusal.Fault.{Fault}
-use Rattle.lexer.specs.declared.refusal.Refusal.the-variants.{SetAside, OutOfLimit}
+use Rattle.lexer.specs.declared.refusal.Refusal.the-variants.{SetAside}
 use Rattle.lexer.specs.declared.quoted.Item.{Item}
 use Rattle.lexer.specs.declared.number.Numeral.the-variants.{Integer}
 use Rattle.lexer.specs.declared.number.NumberToken.{NumberToken}
@@ -23,10 +23,6 @@ module _ (s : List ℕ) (at : ℕ) (i : Item) (e : i ≡ quotedItem singleQuote 
   refused w f = cc
 
   module _ (next : ℕ) where
-    too-large : i ≡ Item.Beyond next → Refused (fault OutOfLimit at) ≡ heldNumber (characterCodeConstant s at)
-    unfolding characterCode heldNumber
-    too-large f = cc
-
     continued : i ≡ Item.Skip next → Refused (fault SetAside at) ≡ heldNumber (characterCodeConstant s at)
     unfolding characterCode heldNumber
     continued f = cc
@@ -35,6 +31,10 @@ module _ (s : List ℕ) (at : ℕ) (i : Item) (e : i ≡ quotedItem singleQuote 
       closed : i ≡ Item.Close next → t ≡ Whole (Integer 0) (at + 1) → t ≡ heldNumber (characterCodeConstant s at)
       unfolding characterCode heldNumber heldNumeral
       closed f g = cc
+
+      too-large : i ≡ Item.Beyond next → t ≡ Whole (Integer beyond) next → t ≡ heldNumber (characterCodeConstant s at)
+      unfolding characterCode heldNumber heldNumeral
+      too-large f g = cc
 
       char : (b n : ℕ) → i ≡ Item.Char b next → n ≡ min b beyond → t ≡ Whole (Integer n) next → t ≡ heldNumber (characterCodeConstant s at)
       unfolding characterCode heldNumber heldNumeral
@@ -58,20 +58,23 @@ wide-requires c κs = search ways
 integer-requires : tie.Need-integer-requires
 integer-requires c κs = search ways
 
+enum-known-next : tie.Need-enum-known-next
+enum-known-next c = search ways
+
+integer-requires-2 : tie.Need-integer-requires-2
+integer-requires-2 c κs = search ways
+
 enum-told : tie.Need-enum-told
 enum-told c = search ways
 
 enum-told-2 : tie.Need-enum-told-2
 enum-told-2 c = search ways
 
-enum-told-3 : tie.Need-enum-told-3
-enum-told-3 c = search ways
-
 add-integer : tie.Need-add-integer
 add-integer c = search ways
 
-integer-requires-2 : tie.Need-integer-requires-2
-integer-requires-2 c κs = search ways
+integer-requires-3 : tie.Need-integer-requires-3
+integer-requires-3 c κs = search ways
 
 enum-known-fault : tie.Need-enum-known-fault
 enum-known-fault c = search ways
@@ -100,11 +103,12 @@ character-code-constant-spec =
     enum-known-code
     wide-requires
     integer-requires
+    enum-known-next
+    integer-requires-2
     enum-told
     enum-told-2
-    enum-told-3
     add-integer
-    integer-requires-2
+    integer-requires-3
     enum-known-fault
     returns
     returns-2

@@ -1,0 +1,85 @@
+// Passing over the layout at hand.
+use crate::layout::Mode;
+use crate::layout::Turn;
+use crate::layout::at_end;
+use crate::layout::turn_ahead;
+use lexer::Cursor;
+use lexer::Fault;
+use lexer::skip_char;
+ghost use mathlib.Core.Path.{_≡_};
+ghost use lib.ListN.{length};
+ghost use Rattle.chunks.specs.Reader.{pass, placed, Passable};
+
+// Why it stops: a token starts; more must be known, and where the text ends it is refused so; refused.
+pub enum Why {
+    Starts,
+    Waits(Fault),
+    Stops(Fault),
+}
+
+// Where it stops: `at` of the bytes at hand are passed.
+pub struct Place {
+    pub mode: Mode,
+    pub cursor: Cursor,
+    pub layout: bool,
+    pub at: usize,
+    pub why: Why,
+}
+
+// Over what stands at hand, from the mode and the cursor on; `layout` says whether some was passed before.
+pub(crate) fn pass_layout(hand: &[u8], mode: Mode, cursor: Cursor, layout: bool) -> Place
+    requires { ⌜ Passable (length (now hand)) cursor ⌝ }
+    ensures { λ r. ⌜ placed (now (hand .entry)) r ≡ pass mode 0 cursor layout (now (hand .entry)) ⌝ }
+{
+    let mut at = 0;
+    let mut left = 0;
+    let mut m = mode;
+    let mut c = cursor;
+    let mut l = layout;
+    while at < hand.len() {
+        match turn_ahead(hand, at, left, m, c.offset) {
+            Turn::On { mode: next, more } => {
+                c = skip_char(c, hand[at]);
+                at += 1;
+                left = more;
+                m = next;
+                l = true;
+            }
+            Turn::Start => {
+                return Place {
+                    mode: m,
+                    cursor: c,
+                    layout: l,
+                    at,
+                    why: Why::Starts,
+                };
+            }
+            Turn::Wait(fault) => {
+                return Place {
+                    mode: m,
+                    cursor: c,
+                    layout: l,
+                    at,
+                    why: Why::Waits(fault),
+                };
+            }
+            Turn::Refused(fault) => {
+                return Place {
+                    mode: m,
+                    cursor: c,
+                    layout: l,
+                    at,
+                    why: Why::Stops(fault),
+                };
+            }
+        }
+    }
+    let fault = at_end(m, c.offset);
+    Place {
+        mode: m,
+        cursor: c,
+        layout: l,
+        at,
+        why: Why::Waits(fault),
+    }
+}
