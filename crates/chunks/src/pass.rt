@@ -17,19 +17,18 @@ pub enum Why {
     Stops(Fault),
 }
 
-// Where it stops: `at` of the bytes at hand are passed.
+// Where it stops: the bytes up to the cursor are passed.
 pub struct Place {
     pub mode: Mode,
     pub cursor: Cursor,
     pub layout: bool,
-    pub at: usize,
     pub why: Why,
 }
 
 // Over what stands at hand, from the mode and the cursor on; `layout` says whether some was passed before.
 pub(crate) fn pass_layout(hand: &[u8], mode: Mode, cursor: Cursor, layout: bool) -> Place
     requires { ⌜ Passable (length (now hand)) cursor ⌝ }
-    ensures { λ r. ⌜ placed (now (hand .entry)) r ≡ pass mode 0 cursor layout (now (hand .entry)) ⌝ }
+    ensures { λ r. ⌜ placed cursor (now (hand .entry)) r ≡ pass mode 0 cursor layout (now (hand .entry)) ⌝ }
 {
     let mut at = 0;
     let mut left = 0;
@@ -50,7 +49,6 @@ pub(crate) fn pass_layout(hand: &[u8], mode: Mode, cursor: Cursor, layout: bool)
                     mode: m,
                     cursor: c,
                     layout: l,
-                    at,
                     why: Why::Starts,
                 };
             }
@@ -59,7 +57,6 @@ pub(crate) fn pass_layout(hand: &[u8], mode: Mode, cursor: Cursor, layout: bool)
                     mode: m,
                     cursor: c,
                     layout: l,
-                    at,
                     why: Why::Waits(fault),
                 };
             }
@@ -68,7 +65,6 @@ pub(crate) fn pass_layout(hand: &[u8], mode: Mode, cursor: Cursor, layout: bool)
                     mode: m,
                     cursor: c,
                     layout: l,
-                    at,
                     why: Why::Stops(fault),
                 };
             }
@@ -79,7 +75,6 @@ pub(crate) fn pass_layout(hand: &[u8], mode: Mode, cursor: Cursor, layout: bool)
         mode: m,
         cursor: c,
         layout: l,
-        at,
         why: Why::Waits(fault),
     }
 }

@@ -1,0 +1,128 @@
+// What the bytes at hand give: layout is passed over, then the token is judged.
+use crate::bytes::moved_by;
+use crate::layout::Mode;
+use crate::pass::Place;
+use crate::pass::Why;
+use crate::pass::pass_layout;
+use crate::verdict::Judgement;
+use crate::verdict::judge;
+use lexer::Cursor;
+use lexer::Fault;
+use lexer::Refusal;
+use lexer::Token;
+ghost use mathlib.Core.Path.{_≡_};
+ghost use Prim.Native.Nat.{_+_, _-_, _≤_};
+ghost use mathlib.Core.Bool.{cond};
+ghost use lib.ListN.{drop};
+ghost use Rattle.lexer.specs.Cursor.{longest};
+ghost use Rattle.chunks.specs.Answers.{handOf};
+ghost use Rattle.chunks.specs.Hand.{toNext, nextBy, TokenFits, Fits, Held, Starting};
+ghost use Rattle.chunks.specs.Reader.{movedBy, judged as judgedBy, reading};
+ghost use Rattle.chunks.specs.Shift.{shiftFault, shiftToken};
+ghost use Rattle.chunks.specs.Verdict.{verdict};
+ghost use Rattle.chunks.specs.declared.hand.Next.the-variants.{Token as Handed, More, Refused};
+
+// The next token with the cursor behind it; where the reading stands, if more must be known; its refusal.
+pub enum Next {
+    Token {
+        token: Token,
+        next: Cursor,
+    },
+    More {
+        mode: Mode,
+        cursor: Cursor,
+        layout: bool,
+    },
+    Refused(Fault),
+}
+
+fn more(place: Place) -> Next
+    ensures { λ r. ⌜ r ≡ More (place .mode) (place .cursor) (place .layout) ⌝ }
+{
+    let mode = place.mode;
+    let cursor = place.cursor;
+    Next::More {
+        mode,
+        cursor,
+        layout: place.layout,
+    }
+}
+
+// A token that was read from its own start, at the place's cursor.
+fn token_from(token: Token, next: Cursor, cursor: Cursor) -> Next
+    requires { ⌜ TokenFits cursor token next ⌝ }
+    ensures { λ r. ⌜ r ≡ Handed (shiftToken (cursor .offset) token) (movedBy cursor next) ⌝ }
+{
+    let kind = token.kind;
+    let value = token.value;
+    Next::Token {
+        token: Token {
+            kind,
+            value,
+            start: cursor.offset + token.start,
+        },
+        next: moved_by(cursor, next),
+    }
+}
+
+fn refused_from(fault: Fault, cursor: Cursor) -> Next
+    requires { ⌜ cursor .offset + fault .offset ≤ longest + 1 ⌝ }
+    ensures { λ r. ⌜ r ≡ Refused (shiftFault (cursor .offset) fault) ⌝ }
+{
+    let refusal = fault.refusal;
+    Next::Refused(Fault {
+        refusal,
+        offset: cursor.offset + fault.offset,
+    })
+}
+
+fn judged(judgement: Judgement, place: Place) -> Next
+    requires { ⌜ Fits (place .cursor) judgement ⌝ }
+    ensures { λ r. ⌜ r ≡ nextBy (place .mode) (place .cursor) (place .layout) judgement ⌝ }
+{
+    let cursor = place.cursor;
+    match judgement {
+        Judgement::Token { token, next } => token_from(token, next, cursor),
+        Judgement::Refused(fault) => refused_from(fault, cursor),
+        Judgement::Long => Next::Refused(Fault {
+            refusal: Refusal::TokenTooLong,
+            offset: cursor.offset,
+        }),
+        Judgement::Waiting => more(place),
+    }
+}
+
+// The token at the place's cursor; the bytes at hand begin at `from` of the text.
+fn start_token(shown: &[u8], place: Place, from: usize, ended: bool) -> Next
+    requires { ⌜ Starting (now shown) place from ⌝ }
+    ensures { λ r. ⌜ r ≡ toNext (judgedBy (place .mode) (place .cursor) (place .layout) (drop (place .cursor .offset - from) (handOf (now (shown .entry)))) (verdict ended (place .layout) (drop (place .cursor .offset - from) (handOf (now (shown .entry)))))) ⌝ }
+{
+    let cursor = place.cursor;
+    let at = cursor.offset - from;
+    judged(judge(&shown[at..], ended, place.layout), place)
+}
+
+// More must be known, or the text has ended.
+fn waits(fault: Fault, place: Place, ended: bool) -> Next
+    ensures { λ r. ⌜ r ≡ cond ended (Refused fault) (More (place .mode) (place .cursor) (place .layout)) ⌝ }
+{
+    if ended {
+        return Next::Refused(fault);
+    }
+    more(place)
+}
+
+// The last of `shown` is the unknown byte; the others are at hand, from the cursor on.
+pub(crate) fn read_hand(shown: &[u8], mode: Mode, cursor: Cursor, layout: bool, ended: bool) -> Next
+    requires { ⌜ Held (now shown) cursor ⌝ }
+    ensures { λ r. ⌜ r ≡ toNext (reading ended mode cursor layout (handOf (now (shown .entry)))) ⌝ }
+{
+    let n = shown.len() - 1;
+    let place = pass_layout(&shown[0..n], mode, cursor, layout);
+    let why = place.why;
+    match why {
+        Why::Starts => start_token(shown, place, cursor.offset, ended),
+        Why::Waits(fault) => waits(fault, place, ended),
+        Why::Stops(fault) => Next::Refused(fault),
+    }
+}

@@ -1,0 +1,70 @@
+// The window: the bytes at hand are moved to its front, and those of a chunk are put behind them.
+ghost use mathlib.Core.Path.{_≡_};
+ghost use lib.ListN.{length, drop, set};
+ghost use lib.Seq.{paste};
+ghost use Prim.Native.Nat.{_+_, _-_};
+ghost use Rattle.chunks.specs.Shift.{unknown};
+ghost use Rattle.chunks.specs.Feed.{takes, placeOf, Moves, Fills};
+
+// 1,027 bytes at hand, as many again, so that each is moved once at most, and the unknown byte.
+pub const WINDOW: usize = 2057;
+
+// The unknown byte, which stands for one that has not come: it is foreign, so a rule that looks at it is refused there.
+const UNKNOWN: u8 = 0;
+
+// Behind it half of the window is free for the bytes at hand.
+const HALF: usize = 1028;
+
+const LONGEST_TOKEN: usize = 1024;
+
+const MOST_AT_HAND: usize = 1027;
+
+// How many of `n` bytes are taken to the `hand` at hand.
+pub(crate) fn bytes_taken(hand: usize, n: usize) -> usize
+    ensures { λ r. ⌜ r ≡ takes hand n ⌝ }
+{
+    let room = if hand < LONGEST_TOKEN {
+        LONGEST_TOKEN - hand
+    } else if hand < MOST_AT_HAND {
+        MOST_AT_HAND - hand
+    } else {
+        0
+    };
+    if n < room { n } else { room }
+}
+
+// Where the bytes at hand, which begin at `from`, are to begin.
+pub(crate) fn hand_place(from: usize) -> usize
+    ensures { λ r. ⌜ r ≡ placeOf from ⌝ }
+{
+    if from < HALF { from } else { 0 }
+}
+
+// Moves them there.
+pub(crate) fn move_hand(window: &mut [u8; WINDOW], from: usize, to: usize, place: usize)
+    requires { ⌜ Moves from to place ⌝ }
+    ensures { λ _. ⌜ now (window .exit) ≡ paste (now (window .entry)) place (drop from (now (window .entry))) (to - from) ⌝ }
+{
+    if place == from {
+        return;
+    }
+    let n = to - from;
+    let mut i = 0;
+    while i < n {
+        window[place + i] = window[from + i];
+        i += 1;
+    }
+}
+
+// Puts the first `n` bytes of the chunk at `at`, and the unknown byte behind them.
+pub(crate) fn fill(window: &mut [u8; WINDOW], at: usize, chunk: &[u8], n: usize)
+    requires { ⌜ Fills (length (now chunk)) at n ⌝ }
+    ensures { λ _. ⌜ now (window .exit) ≡ set (paste (now (window .entry)) at (now (chunk .entry)) n) (at + n) unknown ⌝ }
+{
+    let mut i = 0;
+    while i < n {
+        window[at + i] = chunk[i];
+        i += 1;
+    }
+    window[at + n] = UNKNOWN;
+}
