@@ -2,7 +2,7 @@
 use mathlib.Core.Path.{_≡_, refl, sym, subst, _∙_, ap}
 use mathlib.Core.Logic.{_⊎_, inl, inr, ⊎-elim}
 use mathlib.Core.Bool.{Bool, true, false, cond}
-use mathlib.Core.List.{List, [], _∷_}
+use mathlib.Core.List.{List}
 use Prim.Native.Nat.{ℕ, zero, suc, _+_, _-_, _<_, _≤_}
 use native.Mathlib.Omega.{arith}
 use borrow.Author.Tests.{eq-eqb, ne-eqb, eqb-true, eqb-false}
@@ -23,8 +23,8 @@ use Rattle.lexer.specs.declared.quoted.Item.{Item}
 use Rattle.lexer.specs.declared.quoted.Item.the-variants.{Char, Beyond, Skip, Close, Refused}
 use Rattle.lexer.proofs.Bases.{digits-bounds}
 use Rattle.lexer.proofs.Spans.{by-test}
-use Rattle.chunks.specs.Shift.{unknown, shiftFault}
-use Rattle.chunks.proofs.Kept.{Near, Shows, Kept, by-tests, by-look, both-refuse}
+use Rattle.chunks.specs.Shift.{shiftFault}
+use Rattle.chunks.proofs.Kept.{Near, Shows, Hidden, Kept, by-tests, by-look, both-refuse}
 use Rattle.chunks.proofs.Runs.{shiftDigits, DigitsKept, digits-kept}
 
 unfoldable pub shiftItem : ℕ → Item → Item
@@ -105,10 +105,10 @@ eqb-along d a b = go (eqb a b) refl
 -- ---- an item in the window and in the text
 module _ (n d : ℕ) (w s : List ℕ) (h : Shows n d w s) where
   abbrev pub ItemKept : Item → Item → Type 0
-  ItemKept a b = Kept Refused (shiftItem d) (ItemFrom (d + n)) (ItemUpto n) n (drop n w ≡ unknown ∷ []) a b
+  ItemKept a b = Kept Refused (shiftItem d) (ItemFrom (d + n)) (ItemUpto n) n (Hidden n d w s Refused) a b
 
   tests : (t : Bool) (a b a′ b′ : Item) → (t ≡ true → ItemKept a a′) → (t ≡ false → ItemKept b b′) → ItemKept (cond t a b) (cond t a′ b′)
-  tests = by-tests Refused (shiftItem d) (ItemFrom (d + n)) (ItemUpto n) n (drop n w ≡ unknown ∷ [])
+  tests = by-tests Refused (shiftItem d) (ItemFrom (d + n)) (ItemUpto n) n (Hidden n d w s Refused)
 
   looks : (i j : ℕ) → j ≡ d + i → i ≤ n → (F G : Look → Item) → ((v : Fault) → F (Look.Refused v) ≡ Refused v) → ((v : Fault) → G (Look.Refused v) ≡ Refused v)
       → (i ≡ n → ItemFrom (d + n) (G (lookahead s j)))
@@ -129,7 +129,11 @@ module _ (n d : ℕ) (w s : List ℕ) (h : Shows n d w s) where
     closed-kept : (i j : ℕ) → j ≡ d + i → (a b : Digits) → DigitsKept n d w s h a b → ItemKept (closed t i a (lookahead w (a .end))) (closed u j b (lookahead s (b .end)))
     unfolding closed needed
     closed-kept i j e a b (inl p) =
-        inl (ap (λ (k : ℕ). closed t i a (lookahead w k)) (p .0) ∙ ap (λ (r : Peek). closed t i a (needed n r)) (p .1 .0), closed-from (d + n) u j b (lookahead s (b .end)) (p .1 .1), p .2)
+        inl (
+          ap (λ (k : ℕ). closed t i a (lookahead w k)) (p .0) ∙ ap (λ (r : Peek). closed t i a (needed n r)) (p .1 .0),
+          closed-from (d + n) u j b (lookahead s (b .end)) (p .1 .1),
+          (p .2 .0, λ r k. let e = p .2 .1 r k in ap (λ (o : Peek). closed u j b (needed (b .end) o)) (e .1) ∙ ap (λ (m : ℕ). Refused (fault ForeignByte m)) (e .0)),
+        )
     closed-kept i j e a b (inr p) =
         subst (λ (x : Digits). ItemKept (closed t i a (lookahead w (a .end))) (closed u j x (lookahead s (x .end)))) (sym (p .0))
         (looks (a .end) (d + a .end) refl (p .1) (closed t i a) (closed u j (shiftDigits d a)) (λ v. refl) (λ v. refl)

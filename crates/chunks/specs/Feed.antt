@@ -131,26 +131,29 @@ Behind to sum (Next.Token t c) = Left to sum c
 Behind to sum (Next.More m c l) = Left to sum c
 Behind to sum (Next.Refused w) = Unit {0}
 
--- the places that bytes are moved between
-pub record Moves (from to place : ℕ) : Type 0 where
+-- a window, and the places that bytes are moved between
+pub record Moves (w : List ℕ) (from to place : ℕ) : Type 0 where
+  pub size : length w ≡ windowSize
   pub some : from ≤ to
   pub inside : to < windowSize
   pub front : place ≤ from
 
--- the places that bytes of a chunk are put to
-pub record Fills (n at k : ℕ) : Type 0 where
+-- a window, and the place that k of the n bytes of a chunk are put to
+pub record Fills (w : List ℕ) (n at k : ℕ) : Type 0 where
+  pub size : length w ≡ windowSize
   pub there : k ≤ n
   pub room : at + k < windowSize
 
--- a reader that is sound, and a chunk that may come
-pub record Admitted (r : Reader) (n : ℕ) : Type 0 where
+-- a window, a reader that is sound, and a chunk of n bytes that may come
+pub record Admitted (w : List ℕ) (r : Reader) (n : ℕ) : Type 0 where
+  pub size : length w ≡ windowSize
   pub some : r .from ≤ r .to
   pub inside : r .to < windowSize
   pub valid : Valid (delivered r) (r .cursor)
   pub short : delivered r + n ≤ longest
 
 -- a window that holds the bytes at hand from `place` to `to`, and the unknown byte behind them
-pub record Windowed (r : Reader) (w : List ℕ) (place to : ℕ) : Type 0 where
+pub record Windowed (w : List ℕ) (r : Reader) (place to : ℕ) : Type 0 where
   pub last : part place (to + 1) w ≡ part place to w ++ unknown ∷ []
   pub some : place ≤ to
   pub inside : to < windowSize

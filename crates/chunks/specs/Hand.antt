@@ -47,6 +47,7 @@ Fits c Judgement.Waiting = Unit {0}
 pub record Held (s : List ℕ) (c : Cursor) : Type 0 where
   pub last : s ≡ handOf s ++ unknown ∷ []
   pub some : 0 < length s
+  pub few : length s ≤ longest
   pub able : Passable (length s - 1) c
 
 -- a token starts there: at the place's cursor, which is further on than `from`
@@ -54,4 +55,5 @@ pub record Starting (s : List ℕ) (p : Place) (from : ℕ) : Type 0 where
   pub last : s ≡ handOf s ++ unknown ∷ []
   pub ahead : from ≤ p .cursor .offset
   pub inside : p .cursor .offset - from + 1 < length s
+  pub few : length s ≤ longest
   pub able : Passable (length s - 1 - (p .cursor .offset - from)) (p .cursor)

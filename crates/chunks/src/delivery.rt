@@ -191,13 +191,13 @@ fn fed_by(reader: Reader, to: usize, sum: usize, taken: usize, next: Next) -> Fe
 // Reads the bytes at hand, which stand from `place` to `to`, with the unknown byte behind them.
 fn read_window(
     reader: Reader,
-    window: &[u8; WINDOW],
+    window: &[u8],
     place: usize,
     to: usize,
     taken: usize,
     ended: bool,
 ) -> Fed
-    requires { ⌜ Windowed reader (now window) place to ⌝ }
+    requires { ⌜ Windowed (now window) reader place to ⌝ }
     ensures { λ r. ⌜ r ≡ gave reader to taken (reading ended (reader .mode) (reader .cursor) (reader .layout) (part place to (now (window .entry)))) ⌝ }
 {
     let mode = reader.mode;
@@ -214,8 +214,8 @@ fn read_window(
 }
 
 // Takes what there is room for, and reads the bytes at hand.
-fn take_chunk(reader: Reader, window: &mut [u8; WINDOW], chunk: &[u8], ended: bool) -> Fed
-    requires { ⌜ Admitted reader (length (now chunk)) ⌝ }
+fn take_chunk(reader: Reader, window: &mut [u8], chunk: &[u8], ended: bool) -> Fed
+    requires { ⌜ Admitted (now window) reader (length (now chunk)) ⌝ }
     ensures { λ r. ⌜ leaves r (now (window .exit)) ≡ took ended reader (now (window .entry)) (now (chunk .entry)) (takes (atHand reader) (length (now (chunk .entry)))) ⌝ }
 {
     let from = reader.from;

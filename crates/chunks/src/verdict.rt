@@ -204,7 +204,7 @@ fn by_end(shown: &[u8], ended: bool, layout: bool, answer: Answer) -> Judgement
 }
 
 // The lesser of two.
-fn lesser(a: usize, b: usize) -> usize
+pub(crate) fn lesser(a: usize, b: usize) -> usize
     ensures { λ r. ⌜ r ≡ min a b ⌝ }
 {
     if a < b { a } else { b }

@@ -1,4 +1,5 @@
 // The window: the bytes at hand are moved to its front, and those of a chunk are put behind them.
+use crate::verdict::lesser;
 ghost use mathlib.Core.Path.{_≡_};
 ghost use lib.ListN.{length, drop, set};
 ghost use lib.Seq.{paste};
@@ -23,14 +24,13 @@ const MOST_AT_HAND: usize = 1027;
 pub(crate) fn bytes_taken(hand: usize, n: usize) -> usize
     ensures { λ r. ⌜ r ≡ takes hand n ⌝ }
 {
-    let room = if hand < LONGEST_TOKEN {
-        LONGEST_TOKEN - hand
-    } else if hand < MOST_AT_HAND {
-        MOST_AT_HAND - hand
-    } else {
-        0
-    };
-    if n < room { n } else { room }
+    if hand < LONGEST_TOKEN {
+        return lesser(n, LONGEST_TOKEN - hand);
+    }
+    if hand < MOST_AT_HAND {
+        return lesser(n, MOST_AT_HAND - hand);
+    }
+    0
 }
 
 // Where the bytes at hand, which begin at `from`, are to begin.
@@ -41,8 +41,8 @@ pub(crate) fn hand_place(from: usize) -> usize
 }
 
 // Moves them there.
-pub(crate) fn move_hand(window: &mut [u8; WINDOW], from: usize, to: usize, place: usize)
-    requires { ⌜ Moves from to place ⌝ }
+pub(crate) fn move_hand(window: &mut [u8], from: usize, to: usize, place: usize)
+    requires { ⌜ Moves (now window) from to place ⌝ }
     ensures { λ _. ⌜ now (window .exit) ≡ paste (now (window .entry)) place (drop from (now (window .entry))) (to - from) ⌝ }
 {
     if place == from {
@@ -57,8 +57,8 @@ pub(crate) fn move_hand(window: &mut [u8; WINDOW], from: usize, to: usize, place
 }
 
 // Puts the first `n` bytes of the chunk at `at`, and the unknown byte behind them.
-pub(crate) fn fill(window: &mut [u8; WINDOW], at: usize, chunk: &[u8], n: usize)
-    requires { ⌜ Fills (length (now chunk)) at n ⌝ }
+pub(crate) fn fill(window: &mut [u8], at: usize, chunk: &[u8], n: usize)
+    requires { ⌜ Fills (now window) (length (now chunk)) at n ⌝ }
     ensures { λ _. ⌜ now (window .exit) ≡ set (paste (now (window .entry)) at (now (chunk .entry)) n) (at + n) unknown ⌝ }
 {
     let mut i = 0;

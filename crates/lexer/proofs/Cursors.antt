@@ -49,7 +49,7 @@ module _ (n : ℕ) (c : Cursor) (v : Valid n c) where
   can-move-along e h k = record { before = h; short = omega (arith, v .short); line = v .line; column = v .column }
 
 -- ---- moving
-walk-offset : (c : Cursor) (xs : List ℕ) → walk c xs .offset ≡ c .offset + length xs
+pub walk-offset : (c : Cursor) (xs : List ℕ) → walk c xs .offset ≡ c .offset + length xs
 unfolding walk
 walk-offset c [] = omega arith
 walk-offset c (x ∷ xs) = let k = walk-offset (step c x) xs in omega arith
@@ -59,7 +59,7 @@ unfolding walk
 walk-append c [] ys = refl
 walk-append c (x ∷ xs) ys = walk-append (step c x) xs ys
 
-walk-valid : (n : ℕ) (c : Cursor) (xs : List ℕ) → Valid n c → c .offset + length xs ≤ n → Valid n (walk c xs)
+pub walk-valid : (n : ℕ) (c : Cursor) (xs : List ℕ) → Valid n c → c .offset + length xs ≤ n → Valid n (walk c xs)
 unfolding walk
 walk-valid n c [] v h = v
 walk-valid n c (x ∷ xs) v h = walk-valid n (step c x) xs (step-valid n c v x (omega arith)) (omega arith)

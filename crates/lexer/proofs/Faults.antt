@@ -62,37 +62,37 @@ pub record Unclosed (s : List ℕ) (o : ℕ) : Type 0 where
 abbrev pub Starts : List ℕ → Cursor → ℕ → Type 0
 Starts s c o = layoutEnd s (c .offset) ≡ Stop o
 
--- 01's offset of each refusal, on the text s from the cursor c
-abbrev pub PlacedAt : List ℕ → Cursor → ℕ → Refusal → Type 0
+-- 01's offset of each refusal, on the text s from the cursor c; T says of an offset that the token starts there
+abbrev pub PlacedAt : (ℕ → Type 0) → List ℕ → Cursor → ℕ → Refusal → Type 0
 -- 1: "length"
-PlacedAt s c o EndOfText = o ≡ length s
+PlacedAt T s c o EndOfText = o ≡ length s
 -- 2: "its slash", the unclosed comment's
-PlacedAt s c o UnclosedComment = Unclosed s o
+PlacedAt T s c o UnclosedComment = Unclosed s o
 -- 3: "it", the character that no token starts with
-PlacedAt s c o NoToken = Starts s c o
+PlacedAt T s c o NoToken = T o
 -- 4: "token"
-PlacedAt s c o BadQuoted = Starts s c o
+PlacedAt T s c o BadQuoted = T o
 -- 5: "that byte", the foreign one
-PlacedAt s c o ForeignByte = Strange s o (getD s o 0)
+PlacedAt T s c o ForeignByte = Strange s o (getD s o 0)
 -- 6: "token"
-PlacedAt s c o SetAside = Starts s c o
+PlacedAt T s c o SetAside = T o
 -- 7: "token"
-PlacedAt s c o OutOfLimit = Starts s c o
+PlacedAt T s c o OutOfLimit = T o
 -- 8: "0"; and the text is too long or the cursor is not valid
-PlacedAt s c o NotValid = (o ≡ 0) × (valid (length s) c ≡ false)
+PlacedAt T s c o NotValid = (o ≡ 0) × (valid (length s) c ≡ false)
 -- 9 and above: these are refusals of other calls
-PlacedAt s c o NoRoom = ⊥
-PlacedAt s c o TooManyTokens = ⊥
-PlacedAt s c o NoReading = ⊥
-PlacedAt s c o NoText = ⊥
-PlacedAt s c o TooLong = ⊥
-PlacedAt s c o NoPack = ⊥
-PlacedAt s c o TokenTooLong = ⊥
-PlacedAt s c o UnknownVersion = ⊥
+PlacedAt T s c o NoRoom = ⊥
+PlacedAt T s c o TooManyTokens = ⊥
+PlacedAt T s c o NoReading = ⊥
+PlacedAt T s c o NoText = ⊥
+PlacedAt T s c o TooLong = ⊥
+PlacedAt T s c o NoPack = ⊥
+PlacedAt T s c o TokenTooLong = ⊥
+PlacedAt T s c o UnknownVersion = ⊥
 
 -- a refusal points where the table says
 abbrev pub Placed : List ℕ → Cursor → Fault → Type 0
-Placed s c w = PlacedAt s c (w .offset) (w .refusal)
+Placed s c w = PlacedAt (Starts s c) s c (w .offset) (w .refusal)
 
 -- what holds of the rest of a text, a byte at a time
 by-bytes : (s : List ℕ) (P : ℕ → List ℕ → Type 0) → ((at : ℕ) → length s ≤ at → P at [])
@@ -103,55 +103,58 @@ by-bytes s P none more (suc n) at h =
     ⊎-elim (λ l. subst (P at) (sym (drop-end s at l)) (none at l))
     (λ l. subst (P at) (sym (drop-at s at l)) (more at l (by-bytes s P none more n (at + 1) (omega arith)))) (inside-or-not s at)
 
-module _ (s : List ℕ) (c : Cursor) where
-  -- ---- a refusal of each rule is where the table puts it
+-- ---- a refusal of each rule is where the table puts it
+module _ (s : List ℕ) (c : Cursor) (T : ℕ → Type 0) where
+  abbrev Put : Fault → Type 0
+  Put w = PlacedAt T s c (w .offset) (w .refusal)
+
   abbrev OfScan : Scan → Type 0
   OfScan (Stop e) = Unit {0}
-  OfScan (Refused w) = Placed s c w
+  OfScan (Refused w) = Put w
 
   abbrev OfItem : Item → Type 0
   OfItem (Item.Char b e) = Unit {0}
   OfItem (Item.Beyond e) = Unit {0}
   OfItem (Item.Skip e) = Unit {0}
   OfItem (Item.Close e) = Unit {0}
-  OfItem (Item.Refused w) = Placed s c w
+  OfItem (Item.Refused w) = Put w
 
   abbrev OfQuoted : Quoted → Type 0
   OfQuoted (Quoted.whole bs e) = Unit {0}
-  OfQuoted (Quoted.refused w) = Placed s c w
+  OfQuoted (Quoted.refused w) = Put w
 
   abbrev OfExponent : Exponent → Type 0
   OfExponent Exponent.Absent = Unit {0}
   OfExponent Exponent.Ended = Unit {0}
   OfExponent (Exponent.Whole sign x e) = Unit {0}
   OfExponent (Exponent.Partial sign x e) = Unit {0}
-  OfExponent (Exponent.Refused w) = Placed s c w
+  OfExponent (Exponent.Refused w) = Put w
 
   abbrev OfNumber : NumberToken → Type 0
   OfNumber (NumberToken.Whole n e) = Unit {0}
   OfNumber (NumberToken.Partial n e) = Unit {0}
-  OfNumber (NumberToken.Refused w) = Placed s c w
+  OfNumber (NumberToken.Refused w) = Put w
 
   abbrev OfPlain : Plain → Type 0
   OfPlain (Plain.Whole k v e) = Unit {0}
-  OfPlain (Plain.Refused w) = Placed s c w
+  OfPlain (Plain.Refused w) = Put w
 
   abbrev OfLexeme : Lexeme → Type 0
   OfLexeme (lexeme t e x) = Unit {0}
-  OfLexeme (refused w) = Placed s c w
+  OfLexeme (refused w) = Put w
 
   -- ---- a look, and a byte
-  look-placed : (o : ℕ) → o ≤ length s → (w : Fault) → lookahead s o ≡ Look.Refused w → Placed s c w
+  look-placed : (o : ℕ) → o ≤ length s → (w : Fault) → lookahead s o ≡ Look.Refused w → Put w
   unfolding needed
   look-placed o h w e = go (peek s o) refl e
     where
-      go : (p : Peek) → peek s o ≡ p → needed o p ≡ Look.Refused w → Placed s c w
+      go : (p : Peek) → peek s o ≡ p → needed o p ≡ Look.Refused w → Put w
       go Peek.End q f =
           let k = peek-end s o q in
           let l : o ≡ length s = omega arith in
           let g : fault EndOfText o ≡ w = cc in
-          subst (Placed s c) g l
-      go Peek.Foreign q f = let g : fault ForeignByte o ≡ w = cc in subst (Placed s c) g (peek-foreign s o q)
+          subst Put g l
+      go Peek.Foreign q f = let g : fault ForeignByte o ≡ w = cc in subst Put g (peek-foreign s o q)
       go (Peek.Byte x) q f = let z : _≡_ {A = ℕ} 0 1 = cc in absurd (omega arith)
 
   strange : (o : ℕ) → o < length s → is foreignByte (getD s o 0) ≡ true → Strange s o (getD s o 0)
@@ -200,7 +203,7 @@ module _ (s : List ℕ) (c : Cursor) where
       (λ n e r h k p l. p k) at
 
   -- ---- a token, which starts at `at`
-  module _ (at : ℕ) (h : Starts s c at) where
+  module _ (at : ℕ) (h : T at) where
     -- quoted items
     code-placed : (n e : ℕ) → OfItem (coded n e)
     unfolding coded
@@ -451,14 +454,15 @@ module _ (s : List ℕ) (c : Cursor) where
         (λ _. by-test OfLexeme (eqb x doubleQuote) _ _ (λ _. quoted Kind.String doubleQuote) (λ _. h))))
         (λ _. of-plain (plain field s at layout x) (plain-placed x (look-byte s at x e) field layout))
 
-  -- ---- the calls
+-- ---- the calls
+module _ (s : List ℕ) (c : Cursor) where
   inside-of : (r : Scan) → layoutEnd s (c .offset) ≡ r → Before (c .offset) (length s) r
   inside-of r f = rw f at (layout-ends s (c .offset))
 
-  after-placed : (field : Bool) → c .offset ≤ length s → (r : Scan) → layoutEnd s (c .offset) ≡ r → OfLexeme (afterLayout field s (c .offset) r)
+  after-placed : (field : Bool) → c .offset ≤ length s → (r : Scan) → layoutEnd s (c .offset) ≡ r → OfLexeme s c (Starts s c) (afterLayout field s (c .offset) r)
   unfolding afterLayout
-  after-placed field h (Refused w) f = subst OfScan f (layout-placed (c .offset) h)
-  after-placed field h (Stop at) f = lexeme-placed at f field (ltb (c .offset) at) (lookahead s at) (inside-of (Stop at) f .1) refl
+  after-placed field h (Refused w) f = subst (OfScan s c (Starts s c)) f (layout-placed s c (Starts s c) (c .offset) h)
+  after-placed field h (Stop at) f = lexeme-placed s c (Starts s c) at f field (ltb (c .offset) at) (lookahead s at) (inside-of (Stop at) f .1) refl
 
   answer-placed : (field : Bool) (w : Fault) (back : Cursor) (b : Bool) (l : Lexeme) → valid (length s) c ≡ b → readLexeme field s (c .offset) ≡ l
       → cond b (answered s c l) (Answer.Refused notValid c) ≡ Answer.Refused w back → Placed s c w
@@ -466,7 +470,7 @@ module _ (s : List ℕ) (c : Cursor) where
   answer-placed field w back true (lexeme t e x) v f g = let z : _≡_ {A = ℕ} 0 1 = cc in absurd (omega arith)
   answer-placed field w back true (refused u) v f g =
       let q : u ≡ w = cc in
-      subst (Placed s c) q (subst OfLexeme f (after-placed field (is-valid (length s) c v .offset) (layoutEnd s (c .offset)) refl))
+      subst (Placed s c) q (subst (OfLexeme s c (Starts s c)) f (after-placed field (is-valid (length s) c v .offset) (layoutEnd s (c .offset)) refl))
   answer-placed field w back false l v f g = let q : notValid ≡ w = cc in subst (Placed s c) q (refl, v)
 
   -- a refusal of the token call or, where `field`, of the number call is where 01's table puts it
@@ -477,22 +481,28 @@ module _ (s : List ℕ) (c : Cursor) where
   starts-inside : (o : ℕ) → Starts s c o → o ≤ length s
   starts-inside o f = let b = inside-of (Stop o) f in omega (arith, b .1)
 
-  placed-at-inside : (o : ℕ) (r : Refusal) → PlacedAt s c o r → o ≤ length s
-  placed-at-inside o EndOfText p = omega arith
-  placed-at-inside o UnclosedComment p = omega (arith, p .more)
-  placed-at-inside o NoToken p = starts-inside o p
-  placed-at-inside o BadQuoted p = starts-inside o p
-  placed-at-inside o ForeignByte p = omega (arith, p .inside)
-  placed-at-inside o SetAside p = starts-inside o p
-  placed-at-inside o OutOfLimit p = starts-inside o p
-  placed-at-inside o NotValid p = let z = p .0 in omega arith
-  placed-at-inside o NoRoom p = absurd p
-  placed-at-inside o TooManyTokens p = absurd p
-  placed-at-inside o NoReading p = absurd p
-  placed-at-inside o NoText p = absurd p
-  placed-at-inside o TooLong p = absurd p
-  placed-at-inside o NoPack p = absurd p
-  placed-at-inside o UnknownVersion p = absurd p
+  placed-at-inside : (T : ℕ → Type 0) → ((o : ℕ) → T o → o ≤ length s) → (o : ℕ) (r : Refusal) → PlacedAt T s c o r → o ≤ length s
+  placed-at-inside T q o EndOfText p = omega arith
+  placed-at-inside T q o UnclosedComment p = omega (arith, p .more)
+  placed-at-inside T q o NoToken p = q o p
+  placed-at-inside T q o BadQuoted p = q o p
+  placed-at-inside T q o ForeignByte p = omega (arith, p .inside)
+  placed-at-inside T q o SetAside p = q o p
+  placed-at-inside T q o OutOfLimit p = q o p
+  placed-at-inside T q o NotValid p = let z = p .0 in omega arith
+  placed-at-inside T q o NoRoom p = absurd p
+  placed-at-inside T q o TooManyTokens p = absurd p
+  placed-at-inside T q o NoReading p = absurd p
+  placed-at-inside T q o NoText p = absurd p
+  placed-at-inside T q o TooLong p = absurd p
+  placed-at-inside T q o NoPack p = absurd p
+  placed-at-inside T q o UnknownVersion p = absurd p
 
   pub placed-inside : (w : Fault) → Placed s c w → w .offset ≤ length s
-  placed-inside w = placed-at-inside (w .offset) (w .refusal)
+  placed-inside w = placed-at-inside (Starts s c) starts-inside (w .offset) (w .refusal)
+
+  -- a refusal of the token at an offset, too
+  pub token-refused-inside : (field layout : Bool) (at : ℕ) (w : Fault) → at < length s → lexemeTo field s at layout (lookahead s at) ≡ refused w → w .offset ≤ length s
+  token-refused-inside field layout at w h f =
+      placed-at-inside (λ o. o ≤ length s) (λ o q. q) (w .offset) (w .refusal)
+      (subst (OfLexeme s c (λ o. o ≤ length s)) f (lexeme-placed s c (λ o. o ≤ length s) at (omega arith) field layout (lookahead s at) h refl))
