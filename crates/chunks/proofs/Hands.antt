@@ -53,11 +53,11 @@ shift-none (lexeme t e x) =
     ap (λ (i : ℕ). lexeme (token (t .kind) (t .value) i) (0 + e) x) k ∙ ap (λ (i : ℕ). lexeme t i x) n
 shift-none (refused w) = let k : 0 + w .offset ≡ w .offset = omega arith in ap (λ (i : ℕ). refused (fault (w .refusal) i)) k
 
-module _ (layout ended : Bool) (v : List ℕ) (some : 0 < length v) (c : Cursor) (able : Passable (length v) c) where
-  -- a text that is the bytes at hand
-  right : Right layout v 0 v [] (append-none v) (omega arith) some ended (λ _. refl) (verdict ended layout v)
-  right = verdict-right layout v 0 v [] (append-none v) (omega arith) some ended (λ _. refl)
+-- what the verdict says holds of the text that is the bytes at hand
+pub hand-right : (layout ended : Bool) (v : List ℕ) (some : 0 < length v) → Right layout v 0 v [] (append-none v) (omega arith) some ended (λ _. refl) (verdict ended layout v)
+hand-right layout ended v some = verdict-right layout v 0 v [] (append-none v) (omega arith) some ended (λ _. refl)
 
+module _ (layout ended : Bool) (v : List ℕ) (some : 0 < length v) (c : Cursor) (able : Passable (length v) c) where
   -- the token of that text, or 15 at its start
   in-limit : (a : Lexeme) → limited layout v 0 ≡ shiftLexeme 0 a → (a ≡ refused (fault TokenTooLong 0)) ⊎ (tokenAt layout v 0 ≡ a)
   in-limit a f = go (longer layout v 0) refl
@@ -104,7 +104,7 @@ module _ (layout ended : Bool) (v : List ℕ) (some : 0 < length v) (c : Cursor)
   verdict-fits waiting r = tt
 
   pub judgement-fits : length v < longest → Fits c (judgeOf layout ended v)
-  judgement-fits l = subst (Fits c) (sym (judge-told layout ended v some l)) (verdict-fits (verdict ended layout v) right)
+  judgement-fits l = subst (Fits c) (sym (judge-told layout ended v some l)) (verdict-fits (verdict ended layout v) (hand-right layout ended v some))
 
 -- ---- a token starts further on among the bytes at hand
 module _ (s : List ℕ) (p : Place) (from : ℕ) (h : Starting s p from) (at : ℕ) (e : at ≡ p .cursor .offset - from) where

@@ -24,7 +24,7 @@ pub record Onward (c : Cursor) (n : ℕ) (d : Cursor) (u : List ℕ) (why : Why)
   pub able : Passable (length u) d
   pub some : why ≡ Starts → 0 < length u
 
-abbrev OnwardTo : Cursor → ℕ → Passed → Type 0
+abbrev pub OnwardTo : Cursor → ℕ → Passed → Type 0
 OnwardTo c n (stopped m d l u why) = Onward c n d u why
 
 -- past one byte
@@ -56,3 +56,6 @@ pass-on (x ∷ xs) m k c l a = go (λ m′ j. pass-on xs m′ j (step c x) true)
 -- as the code has it: from the cursor c, over the bytes u, to the place p
 pub placed-on : (m : Mode) (c : Cursor) (l : Bool) (u : List ℕ) (p : Place) → Passable (length u) c → placed c u p ≡ pass m 0 c l u → Onward c (length u) (p .cursor) (drop (p .cursor .offset - c .offset) u) (p .why)
 placed-on m c l u p a e = subst (OnwardTo c (length u)) (sym e) (pass-on u m 0 c l a)
+
+pub pass-onward : (m : Mode) (c : Cursor) (l : Bool) (u : List ℕ) → Passable (length u) c → (p : Passed) → pass m 0 c l u ≡ p → OnwardTo c (length u) p
+pass-onward m c l u a p e = subst (OnwardTo c (length u)) e (pass-on u m 0 c l a)

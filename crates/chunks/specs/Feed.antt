@@ -80,9 +80,9 @@ place r = placeOf (r .from)
 abbrev pub endOfHand : Reader → ℕ → ℕ
 endOfHand r k = place r + atHand r + k
 
--- the window, when k bytes of the chunk are taken: they stand behind the bytes at hand, and the unknown byte behind them
-abbrev pub filledWith : Reader → List ℕ → List ℕ → ℕ → List ℕ
-filledWith r w chunk k = set (paste (paste w (place r) (drop (r .from) w) (atHand r)) (place r + atHand r) chunk k) (endOfHand r k) unknown
+-- the window, when h bytes at hand are moved from one place to another and k bytes of the chunk stand behind them, with the unknown byte behind those
+abbrev pub filledWith : List ℕ → ℕ → ℕ → ℕ → List ℕ → ℕ → List ℕ
+filledWith w from to h chunk k = set (paste (paste w to (drop from w) h) (to + h) chunk k) (to + h + k) unknown
 
 -- what a call leaves: its answer, and the window
 pub data Leaves : Type 0 where
@@ -100,7 +100,7 @@ gave r to k (never w) = refusing r k w
 
 -- k bytes of the chunk are taken, and the bytes at hand are read
 abbrev pub took : Bool → Reader → List ℕ → List ℕ → ℕ → Leaves
-took ended r w chunk k = leaves (gave r (endOfHand r k) k (reading ended (r .mode) (r .cursor) (r .layout) (handIn r w ++ take k chunk))) (filledWith r w chunk k)
+took ended r w chunk k = leaves (gave r (endOfHand r k) k (reading ended (r .mode) (r .cursor) (r .layout) (handIn r w ++ take k chunk))) (filledWith w (r .from) (place r) (atHand r) chunk k)
 
 abbrev pub offered : Bool → Reader → List ℕ → List ℕ → Leaves
 offered ended r w chunk = cond (admitted ended r (length chunk)) (took ended r w chunk (takes (atHand r) (length chunk))) (leaves (refusing r 0 notValid) w)
@@ -143,6 +143,12 @@ pub record Fills (w : List ℕ) (n at k : ℕ) : Type 0 where
   pub size : length w ≡ windowSize
   pub there : k ≤ n
   pub room : at + k < windowSize
+
+-- both
+pub record TakesIn (w : List ℕ) (from to place n k : ℕ) : Type 0 where
+  pub moves : Moves w from to place
+  pub there : k ≤ n
+  pub room : place + (to - from) + k < windowSize
 
 -- a window, a reader that is sound, and a chunk of n bytes that may come
 pub record Admitted (w : List ℕ) (r : Reader) (n : ℕ) : Type 0 where

@@ -4,9 +4,8 @@ use crate::hand::read_hand;
 use crate::layout::Mode;
 use crate::window::WINDOW;
 use crate::window::bytes_taken;
-use crate::window::fill;
 use crate::window::hand_place;
-use crate::window::move_hand;
+use crate::window::take_in;
 use lexer::Cursor;
 use lexer::Fault;
 use lexer::Refusal;
@@ -221,11 +220,9 @@ fn take_chunk(reader: Reader, window: &mut [u8], chunk: &[u8], ended: bool) -> F
     let from = reader.from;
     let hand = reader.to - from;
     let place = hand_place(from);
-    let end = place + hand;
     let taken = bytes_taken(hand, chunk.len());
-    move_hand(window, from, reader.to, place);
-    fill(window, end, chunk, taken);
-    read_window(reader, window, place, end + taken, taken, ended)
+    take_in(window, from, reader.to, place, chunk, taken);
+    read_window(reader, window, place, place + hand + taken, taken, ended)
 }
 
 fn offer(reader: Reader, window: &mut [u8; WINDOW], chunk: &[u8], ended: bool) -> Fed

@@ -5,7 +5,7 @@ ghost use lib.ListN.{length, drop, set};
 ghost use lib.Seq.{paste};
 ghost use Prim.Native.Nat.{_+_, _-_};
 ghost use Rattle.chunks.specs.Shift.{unknown};
-ghost use Rattle.chunks.specs.Feed.{takes, placeOf, Moves, Fills};
+ghost use Rattle.chunks.specs.Feed.{takes, placeOf, filledWith, Moves, Fills, TakesIn};
 
 // 1,027 bytes at hand, as many again, so that each is moved once at most, and the unknown byte.
 pub const WINDOW: usize = 2057;
@@ -41,7 +41,7 @@ pub(crate) fn hand_place(from: usize) -> usize
 }
 
 // Moves them there.
-pub(crate) fn move_hand(window: &mut [u8], from: usize, to: usize, place: usize)
+fn move_hand(window: &mut [u8], from: usize, to: usize, place: usize)
     requires { ⌜ Moves (now window) from to place ⌝ }
     ensures { λ _. ⌜ now (window .exit) ≡ paste (now (window .entry)) place (drop from (now (window .entry))) (to - from) ⌝ }
 {
@@ -57,7 +57,7 @@ pub(crate) fn move_hand(window: &mut [u8], from: usize, to: usize, place: usize)
 }
 
 // Puts the first `n` bytes of the chunk at `at`, and the unknown byte behind them.
-pub(crate) fn fill(window: &mut [u8], at: usize, chunk: &[u8], n: usize)
+fn fill(window: &mut [u8], at: usize, chunk: &[u8], n: usize)
     requires { ⌜ Fills (now window) (length (now chunk)) at n ⌝ }
     ensures { λ _. ⌜ now (window .exit) ≡ set (paste (now (window .entry)) at (now (chunk .entry)) n) (at + n) unknown ⌝ }
 {
@@ -67,4 +67,21 @@ pub(crate) fn fill(window: &mut [u8], at: usize, chunk: &[u8], n: usize)
         i += 1;
     }
     window[at + n] = UNKNOWN;
+}
+
+// Moves the bytes at hand to `place`, and puts the first `taken` bytes of the chunk behind them, with the unknown byte behind those.
+pub(crate) fn take_in(
+    window: &mut [u8],
+    from: usize,
+    to: usize,
+    place: usize,
+    chunk: &[u8],
+    taken: usize,
+)
+    requires { ⌜ TakesIn (now window) from to place (length (now chunk)) taken ⌝ }
+    ensures { λ _. ⌜ now (window .exit) ≡ filledWith (now (window .entry)) from place (to - from) (now (chunk .entry)) taken ⌝ }
+{
+    move_hand(window, from, to, place);
+    let end = place + (to - from);
+    fill(window, end, chunk, taken);
 }
