@@ -28,14 +28,14 @@ pub record Rest (from sum : ℕ) (d : Cursor) (u : List ℕ) : Type 0 where
   pub able : Passable (length u) d
 
 abbrev pub Counts : ℕ → ℕ → Gives → Type 0
-Counts from sum (handed t d u) = Rest from sum d u
+Counts from sum (handed t d u) = Rest (from + 1) sum d u
 Counts from sum (more m d l u) = Rest from sum d u
 Counts from sum (never w) = Unit {0}
 
 module _ (from sum : ℕ) (m : Mode) (d : Cursor) (l : Bool) (u : List ℕ) (r : Rest from sum d u) where
   -- past the first e of them
-  further : (e : ℕ) → e ≤ length u → Rest from sum (walk d (take e u)) (drop e u)
-  further e h =
+  further : (e : ℕ) → 0 < e → e ≤ length u → Rest (from + 1) sum (walk d (take e u)) (drop e u)
+  further e i h =
       let o = walk-offset d (take e u) in
       let n = length-take-le e u h in
       let k = length-drop e u in
@@ -47,7 +47,7 @@ module _ (from sum : ℕ) (m : Mode) (d : Cursor) (l : Bool) (u : List ℕ) (r :
 
   judged-counts : (some : 0 < length u) (ended : Bool) (k : Verdict) → Right l u 0 u [] (append-none u) (omega arith) some ended (λ _. refl) k → Counts from sum (judged m d l u k)
   unfolding judged
-  judged-counts some ended (settled (lexeme t e x)) q = further e (q .1 .1)
+  judged-counts some ended (settled (lexeme t e x)) q = further e (q .1 .0) (q .1 .1)
   judged-counts some ended (settled (refused w)) q = tt
   judged-counts some ended tooLong q = tt
   judged-counts some ended waiting q = r

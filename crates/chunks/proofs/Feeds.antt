@@ -87,13 +87,13 @@ module _ (r : Reader) (to from sum k : ℕ) where
   gives-behind (never w) q h = tt
 
   -- the bytes that are left, by the cursor
-  left-same : (d : Cursor) (u : List ℕ) → Rest from sum d u → to - (sum - d .offset) ≡ to - length u
-  left-same d u q = let c = q .count in let e : sum - d .offset ≡ length u = omega arith in ap (λ (i : ℕ). to - i) e
+  left-same : (d : Cursor) (u : List ℕ) → d .offset + length u ≡ sum → to - (sum - d .offset) ≡ to - length u
+  left-same d u c = let e : sum - d .offset ≡ length u = omega arith in ap (λ (i : ℕ). to - i) e
 
   pub fed-gave : (g : Gives) → Counts from sum g → fedBy r to sum k (toNext g) ≡ gave r to k g
   unfolding toNext fedBy gave
-  fed-gave (handed t d u) q = ap (λ (i : ℕ). record { reader = record { mode = Blank; cursor = d; layout = false; from = i; to = to; phase = r .phase }; taken = k; given = Given.Token t d }) (left-same d u q)
-  fed-gave (more m d l u) q = ap (λ (i : ℕ). record { reader = record { mode = m; cursor = d; layout = l; from = i; to = to; phase = r .phase }; taken = k; given = Given.More }) (left-same d u q)
+  fed-gave (handed t d u) q = ap (λ (i : ℕ). record { reader = record { mode = Blank; cursor = d; layout = false; from = i; to = to; phase = r .phase }; taken = k; given = Given.Token t d }) (left-same d u (q .count))
+  fed-gave (more m d l u) q = ap (λ (i : ℕ). record { reader = record { mode = m; cursor = d; layout = l; from = i; to = to; phase = r .phase }; taken = k; given = Given.More }) (left-same d u (q .count))
   fed-gave (never w) q = refl
 
 -- bytes with the unknown one behind them
@@ -175,7 +175,7 @@ module _ (w : List ℕ) (r : Reader) (place to : ℕ) (h : Windowed w r place to
 pub takes-few : (h n : ℕ) → takes h n ≤ n
 takes-few h n = omega arith
 
-takes-room : (h n : ℕ) → h + takes h n ≤ cond (ltb h mostAtHand) mostAtHand h
+pub takes-room : (h n : ℕ) → h + takes h n ≤ cond (ltb h mostAtHand) mostAtHand h
 takes-room h n = go (ltb h longestToken) refl (ltb h mostAtHand) refl
   where
     go : (t : Bool) → ltb h longestToken ≡ t → (u : Bool) → ltb h mostAtHand ≡ u → h + min n (cond t (longestToken - h) (mostAtHand - h)) ≤ cond u mostAtHand h
@@ -205,7 +205,7 @@ module _ (from to : ℕ) (some : from ≤ to) (inside : to < windowSize) where
       go false e false f = let a = ltb-false from (mostAtHand + 1) e in let b : h + takes h n ≤ h = rw f at (takes-room h n) in omega arith
 
 -- the last bytes of the first a + n, where the first a are known
-last-part : (a n : ℕ) (w x y : List ℕ) → a ≤ length w → length x ≡ a → take (a + n) w ≡ x ++ y → take n (drop a w) ≡ y
+pub last-part : (a n : ℕ) (w x y : List ℕ) → a ≤ length w → length x ≡ a → take (a + n) w ≡ x ++ y → take n (drop a w) ≡ y
 last-part a n w x y h l e =
     sym (drop-at (take a w) (take n (drop a w)) a (length-take-le a w h)) ∙ ap (drop a) (sym (take-add a n w) ∙ e) ∙ drop-at x y a l
 
@@ -232,7 +232,7 @@ module _ (w chunk : List ℕ) (from place h k : ℕ) (size : length w ≡ window
   put-length : length put ≡ windowSize
   put-length = let l = moved-length in length-paste moved (place + h) chunk k (omega arith) few ∙ l
 
-  behind-length : length behind ≡ windowSize
+  pub behind-length : length behind ≡ windowSize
   behind-length = length-set put (place + h + k) unknown ∙ put-length
 
   put-front : take (place + (h + k)) put ≡ take place w ++ hand
@@ -246,7 +246,7 @@ module _ (w chunk : List ℕ) (from place h k : ℕ) (size : length w ≡ window
   front-length : length (take place w) ≡ place
   front-length = length-take-le place w (omega arith)
 
-  behind-hand : take (h + k) (drop place behind) ≡ hand
+  pub behind-hand : take (h + k) (drop place behind) ≡ hand
   behind-hand =
       let l = behind-length in
       last-part place (h + k) behind (take place w) hand (omega arith) front-length

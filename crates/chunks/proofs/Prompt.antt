@@ -27,17 +27,21 @@ use Rattle.chunks.specs.declared.layout.Mode.{Mode}
 use Rattle.chunks.specs.declared.layout.Turn.{Turn}
 use Rattle.chunks.specs.declared.layout.Mode.the-variants.{Blank as blank, Line as line, Inside as inside}
 use Rattle.chunks.specs.declared.layout.Turn.the-variants.{On as on, Start as start, Wait as wait, Refused as stop}
-use Rattle.chunks.specs.Reader.{Passed, stopped, carried, pass, handed, more, never, judged, given, reading}
+use Rattle.chunks.specs.Reader.{Passed, stopped, carried, pass, handed, more, never, judged, given, reading, Passable}
+use Rattle.chunks.specs.declared.pass.Why.{Why}
 use Rattle.chunks.specs.declared.pass.Why.the-variants.{Starts as starts, Waits as waits, Stops as stops}
 use Rattle.chunks.specs.Shift.{unknown}
 use Rattle.chunks.specs.Verdict.{Verdict, settled, tooLong, waiting, view, shownLate, byEnd, verdict}
 use Rattle.chunks.specs.Whole.{longestToken, tokenAt, cutAt, cameTo, ownByte, showing, unshown, longerThan, endOf, tokenEnd, longer, limited, nextLexeme}
 use Rattle.chunks.proofs.Cuts.{fed-stands}
+use Rattle.chunks.proofs.Hands.{hand-right}
+use Rattle.chunks.proofs.Judges.{append-none}
 use Rattle.chunks.proofs.Kept.{Near, Shows}
 use Rattle.chunks.proofs.Layouts.{turn-tells, rest-there}
+use Rattle.chunks.proofs.Passing.{Onward, pass-onward}
 use Rattle.chunks.proofs.Reading.{Stands, PassTold, pass-told, refused-there, starts-there, Tells, reading-tells}
 use Rattle.chunks.proofs.Tokens.{LexemeKept, LexemeUpto, lexeme-kept}
-use Rattle.chunks.proofs.Verdicts.{none-end, is-shown, is-short}
+use Rattle.chunks.proofs.Verdicts.{Right, none-end, is-shown, is-short}
 use Rattle.chunks.proofs.Windows.{cut-length, cut-byte, shows-cut, shows-end, came-hit, near-gone, digit-token, numbered-hit, plain-hit}
 
 -- ---- a wait in layout
@@ -114,12 +118,12 @@ module _ (s : List ℕ) (at : ℕ) (r : List ℕ) where
       (λ _. by-test (Open s (inside o) at (x ∷ xs)) (eqb x star) _ _
       (λ g. let k = eqb-true x star g in subst (λ (c : ℕ). Open s (inside o) at (c ∷ xs) (starred o xs)) (sym k) (starred-open o xs (d ∙ ap (λ (c : ℕ). c ∷ (xs ++ unknown ∷ r)) k))) (λ _. tt))
 
--- a wait is not for a foreign byte: the refusal that it holds for the end of the text is another
-abbrev Other : Turn → Type 0
-Other (on m′ k) = Unit {0}
-Other start = Unit {0}
-Other (wait w) = w .refusal ≡ ForeignByte → ⊥
-Other (stop w) = Unit {0}
+-- a wait is for the byte behind two at most, and not for a foreign one: the refusal that it holds for the end of the text is another
+abbrev Other : List ℕ → Turn → Type 0
+Other u (on m′ k) = Unit {0}
+Other u start = Unit {0}
+Other u (wait w) = (w .refusal ≡ ForeignByte → ⊥) × (length u ≤ 2)
+Other u (stop w) = Unit {0}
 
 -- the refusals that a wait holds
 end-other : EndOfText ≡ ForeignByte → ⊥
@@ -129,32 +133,33 @@ comment-other : UnclosedComment ≡ ForeignByte → ⊥
 comment-other q = let y : _≡_ {A = ℕ} 0 1 = cc in omega arith
 
 -- the same four places, and each mode
-opened-other : (at : ℕ) (ys : List ℕ) → Other (opened at ys)
+opened-other : (at x y : ℕ) (ys : List ℕ) → Other (x ∷ y ∷ ys) (opened at ys)
 unfolding opened
-opened-other at [] = end-other
-opened-other at (y ∷ ys) = by-test Other (is foreignByte y) _ _ (λ _. tt) (λ _. tt)
+opened-other at x y [] = (end-other, omega arith)
+opened-other at x y (z ∷ zs) = by-test (Other (x ∷ y ∷ z ∷ zs)) (is foreignByte z) _ _ (λ _. tt) (λ _. tt)
 
-slashed-other : (at : ℕ) (xs : List ℕ) → Other (slashed at xs)
+slashed-other : (at x : ℕ) (xs : List ℕ) → Other (x ∷ xs) (slashed at xs)
 unfolding slashed
-slashed-other at [] = end-other
-slashed-other at (y ∷ ys) = by-test Other (is foreignByte y) _ _ (λ _. tt) (λ _. by-test Other (eqb y star) _ _ (λ _. opened-other at ys) (λ _. tt))
+slashed-other at x [] = (end-other, omega arith)
+slashed-other at x (y ∷ ys) =
+    by-test (Other (x ∷ y ∷ ys)) (is foreignByte y) _ _ (λ _. tt) (λ _. by-test (Other (x ∷ y ∷ ys)) (eqb y star) _ _ (λ _. opened-other at x y ys) (λ _. tt))
 
-starred-other : (o : ℕ) (xs : List ℕ) → Other (starred o xs)
+starred-other : (o x : ℕ) (xs : List ℕ) → Other (x ∷ xs) (starred o xs)
 unfolding starred
-starred-other o [] = comment-other
-starred-other o (y ∷ ys) = by-test Other (eqb y slash) _ _ (λ _. tt) (λ _. tt)
+starred-other o x [] = (comment-other, omega arith)
+starred-other o x (y ∷ ys) = by-test (Other (x ∷ y ∷ ys)) (eqb y slash) _ _ (λ _. tt) (λ _. tt)
 
-turn-other : (m : Mode) (at : ℕ) (u : List ℕ) → Other (turn m at u)
+turn-other : (m : Mode) (at : ℕ) (u : List ℕ) → Other u (turn m at u)
 unfolding turn
-turn-other blank at [] = end-other
-turn-other line at [] = end-other
-turn-other (inside o) at [] = comment-other
+turn-other blank at [] = (end-other, omega arith)
+turn-other line at [] = (end-other, omega arith)
+turn-other (inside o) at [] = (comment-other, omega arith)
 turn-other blank at (x ∷ xs) =
-    by-test Other (is foreignByte x) _ _ (λ _. tt)
-    (λ _. by-test Other (is layoutChar x) _ _ (λ _. tt)
-    (λ _. by-test Other (eqb x percent) _ _ (λ _. tt) (λ _. by-test Other (eqb x slash) _ _ (λ _. slashed-other at xs) (λ _. tt))))
-turn-other line at (x ∷ xs) = by-test Other (is foreignByte x) _ _ (λ _. tt) (λ _. by-test Other (eqb x newline) _ _ (λ _. tt) (λ _. tt))
-turn-other (inside o) at (x ∷ xs) = by-test Other (is foreignByte x) _ _ (λ _. tt) (λ _. by-test Other (eqb x star) _ _ (λ _. starred-other o xs) (λ _. tt))
+    by-test (Other (x ∷ xs)) (is foreignByte x) _ _ (λ _. tt)
+    (λ _. by-test (Other (x ∷ xs)) (is layoutChar x) _ _ (λ _. tt)
+    (λ _. by-test (Other (x ∷ xs)) (eqb x percent) _ _ (λ _. tt) (λ _. by-test (Other (x ∷ xs)) (eqb x slash) _ _ (λ _. slashed-other at x xs) (λ _. tt))))
+turn-other line at (x ∷ xs) = by-test (Other (x ∷ xs)) (is foreignByte x) _ _ (λ _. tt) (λ _. by-test (Other (x ∷ xs)) (eqb x newline) _ _ (λ _. tt) (λ _. tt))
+turn-other (inside o) at (x ∷ xs) = by-test (Other (x ∷ xs)) (is foreignByte x) _ _ (λ _. tt) (λ _. by-test (Other (x ∷ xs)) (eqb x star) _ _ (λ _. starred-other o x xs) (λ _. tt))
 
 -- where the passing waits, its last turn waits
 abbrev LastTurn : Passed → Type 0
@@ -377,8 +382,8 @@ module _ (s : List ℕ) (o : Cursor) (m′ : Mode) (c′ : Cursor) (l′ : Bool)
       let k = limited-inside l s (c .offset) (length s) (p .0 .inside) (sym (starts-there s o [] false never-ended m c l u (p .0) (p .1 .1)) ∙ f) in
       omega arith
   given-ended (stopped m c l u (waits w)) p t e f =
-      let other : w .refusal ≡ ForeignByte → ⊥ = subst Other t (turn-other m (c .offset) u) in
-      other (same-fault w (fault ForeignByte (length s)) (sym (refused-there s o [] false never-ended m c l u w (p .0) (p .1 refl)) ∙ f) refl)
+      let other : (w .refusal ≡ ForeignByte → ⊥) × (length u ≤ 2) = subst (Other u) t (turn-other m (c .offset) u) in
+      other .0 (same-fault w (fault ForeignByte (length s)) (sym (refused-there s o [] false never-ended m c l u w (p .0) (p .1 refl)) ∙ f) refl)
   given-ended (stopped m c l u (stops w)) p t e f = never-more m c l u m′ c′ l′ u′ w e
 
 -- ---- the reader, whatever comes
@@ -422,6 +427,34 @@ module _ (s : List ℕ) (o : Cursor) (m : Mode) (c : Cursor) (l : Bool) (u : Lis
   -- and when it has handed out a token, on the way to the next
   pub handed-after : (t : Token) (d : Cursor) (u′ : List ℕ) → reading false m c l u ≡ handed t d u′ → StandsAfter s d blank d false u′
   handed-after t d u′ q z = let p : Tells (s ++ z) o z false never-ended (handed t d u′) = subst (Tells (s ++ z) o z false never-ended) q (told z) in p .1
+
+-- ---- it asks for more: fewer than 1,027 bytes are at hand
+module _ (m′ : Mode) (c′ : Cursor) (l′ : Bool) (u′ : List ℕ) (ended : Bool) where
+  waits-asked : (m : Mode) (c : Cursor) (l : Bool) (u : List ℕ) (w : Fault) (t : Bool) → cond t (never w) (more m c l u) ≡ more m′ c′ l′ u′ → u ≡ u′
+  waits-asked m c l u w true q = absurd (never-more m c l u m′ c′ l′ u′ w q)
+  waits-asked m c l u w false q = asked m c l u m′ c′ l′ u′ q
+
+  given-few : (m : Mode) (c : Cursor) (l : Bool) (u : List ℕ) (y : Why) → LastTurn (stopped m c l u y) → (y ≡ starts → 0 < length u) → given ended (stopped m c l u y) ≡ more m′ c′ l′ u′ → length u′ < longestToken + 3
+  unfolding given
+  given-few m c l u starts t some e =
+      let j = judged-more m c l u m′ c′ l′ u′ (verdict ended l u) e in
+      let r = hand-right l ended u (some refl) in
+      let b : (ended ≡ false) × (length u < longestToken + 3) = subst (Right l u 0 u [] (append-none u) (omega arith) (some refl) ended (λ _. refl)) (j .0) r in
+      subst (λ (x : List ℕ). length x < longestToken + 3) (j .1) (b .1)
+  given-few m c l u (waits w) t some e =
+      let f = waits-asked m c l u w ended e in
+      let other : (w .refusal ≡ ForeignByte → ⊥) × (length u ≤ 2) = subst (Other u) t (turn-other m (c .offset) u) in
+      let k = ap length f in
+      omega (arith, other .1)
+  given-few m c l u (stops w) t some e = absurd (never-more m c l u m′ c′ l′ u′ w e)
+
+  pub asked-few : (m : Mode) (c : Cursor) (l : Bool) (u : List ℕ) → Passable (length u) c → reading ended m c l u ≡ more m′ c′ l′ u′ → length u′ < longestToken + 3
+  asked-few m c l u a e = go (pass m zero c l u) refl
+    where
+      go : (q : Passed) → pass m zero c l u ≡ q → length u′ < longestToken + 3
+      go (stopped m₁ c₁ l₁ u₁ y) f =
+          let o : Onward c (length u) c₁ u₁ y = pass-onward m c l u a (stopped m₁ c₁ l₁ u₁ y) f in
+          given-few m₁ c₁ l₁ u₁ y (subst LastTurn f (last-turn u m zero c l)) (o .some) (sym (ap (given ended) f) ∙ e)
 
 -- ---- it asks for more: a wait is never idle
 module _ (s : List ℕ) (o : Cursor) (m : Mode) (c : Cursor) (l : Bool) (u : List ℕ) (stands : StandsAfter s o m c l u)

@@ -27,7 +27,7 @@ pub record Promised (s : List ℕ) (c : Cursor) (t : Token) (d : Cursor) : Type 
   pub walked : d ≡ walk c (part (c .offset) (d .offset) s)
 
 -- the test of a cursor, from its facts
-passes : (n : ℕ) (c : Cursor) → Valid n c → valid n c ≡ true
+pub passes : (n : ℕ) (c : Cursor) → Valid n c → valid n c ≡ true
 unfolding valid
 passes n c v =
     cc (le-leb n longest (v .short), le-leb (c .offset) n (v .offset), le-leb (c .line) (c .offset) (v .line), le-leb (c .column) (c .offset) (v .column))
