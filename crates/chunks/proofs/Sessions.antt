@@ -4,7 +4,7 @@ use mathlib.Core.Bool.{Bool, true, false, cond, _&&_}
 use mathlib.Core.List.{List, [], _∷_, _++_, append-assoc, append-nil}
 use Prim.Native.Nat.{ℕ, zero, suc, _+_, _-_, _<_, _≤_, min}
 use native.Mathlib.Omega.{arith}
-use borrow.Author.Tests.{lt-ltb, le-leb}
+use borrow.Author.Tests.{lt-ltb, ltb-true, le-leb}
 use lib.Dec.{leb, ltb}
 use lib.ListN.{length, take, drop, length-append, length-drop, length-take, take-append-drop}
 use lib.Seq.{length-take-le, take-nil, drop-drop}
@@ -14,9 +14,10 @@ use Rattle.lexer.specs.declared.refusal.Fault.{Fault}
 use Rattle.lexer.specs.declared.cursor.Cursor.{Cursor}
 use Rattle.lexer.specs.declared.token.Token.{Token}
 use Rattle.lexer.proofs.Calls.{passes}
-use Rattle.chunks.specs.Feed.{Leaves, leaves, atHand, handIn, delivered, windowSize, mostAtHand, sound, admitted, takes, placeOf, place, endOfHand, filledWith, gave, took, offered, byPhase, feeding, Admitted}
+use Rattle.chunks.specs.Feed.{Leaves, leaves, atHand, handIn, delivered, windowSize, mostAtHand, sound, admitted, takes, placeOf, place, endOfHand, filledWith, gave, took, offered, byPhase, feeding, begun, endedPhase, inPhase, finishing}
 use Rattle.chunks.specs.Reader.{Gives, handed, more, never, reading, Passable}
-use Rattle.chunks.specs.Whole.{nextLexeme, Next}
+use Rattle.chunks.specs.Session.{left, told as heard, call, session}
+use Rattle.chunks.specs.Whole.{longestToken, nextLexeme, Handed, token, last, stuck, Next, Hands, Complete, joined}
 use Rattle.chunks.specs.declared.delivery.Fed.{Fed}
 use Rattle.chunks.specs.declared.delivery.Given.{Given}
 use Rattle.chunks.specs.declared.delivery.Phase.{Phase}
@@ -24,9 +25,9 @@ use Rattle.chunks.specs.declared.delivery.Reader.{Reader}
 use Rattle.chunks.specs.declared.layout.Mode.{Mode}
 use Rattle.chunks.specs.declared.layout.Mode.the-variants.{Blank as blank}
 use Rattle.chunks.proofs.Counts.{Rest, Counts, reading-counts}
-use Rattle.chunks.proofs.Cuts.{fed-stands}
+use Rattle.chunks.proofs.Cuts.{fed-stands, unique}
 use Rattle.chunks.proofs.Feeds.{last-part, takes-few, takes-room, place-front, place-room, behind-hand, behind-length}
-use Rattle.chunks.proofs.Prompt.{asked-few}
+use Rattle.chunks.proofs.Prompt.{begun-after, asked-few}
 use Rattle.chunks.proofs.Reading.{Stands, Tells, reading-tells}
 
 abbrev phaseOf : Bool → Phase
@@ -229,3 +230,178 @@ module _ (ended : Bool) (p : List ℕ) (o : Cursor) (r : Reader) (w : List ℕ) 
   step =
       subst (Stepped ended (p ++ x) o k) (sym feeds)
       (by-gives (reading ended (r .mode) (r .cursor) (r .layout) v) refl (reading-counts ended (r .mode) (r .cursor) (r .layout) v able) told)
+
+-- ---- the reader at its start, and when the end is said
+false-true : false ≡ true → ⊥
+false-true e = let y : _≡_ {A = ℕ} 0 1 = cc in omega arith
+
+true-false : true ≡ false → ⊥
+true-false e = false-true (sym e)
+
+pub begun-driven : (w : List ℕ) → length w ≡ windowSize → Driven false [] startCursor begun w
+begun-driven w l =
+    record {
+      phase = refl;
+      size = l;
+      some = omega arith;
+      inside = omega arith;
+      few = omega arith;
+      count = omega arith;
+      able = record { short = omega arith; line = omega arith; column = omega arith };
+      stands = λ z f. begun-after z;
+    }
+
+pub ended-driven : (p : List ℕ) (o : Cursor) (r : Reader) (w : List ℕ) → Driven false p o r w → Driven true p o (finishing r) w
+unfolding endedPhase
+ended-driven p o r w d =
+    record {
+      phase = ap endedPhase (d .phase);
+      size = d .size;
+      some = d .some;
+      inside = d .inside;
+      few = d .few;
+      count = d .count;
+      able = d .able;
+      stands = λ z f. d .stands z (λ e. absurd (false-true e));
+    }
+
+-- it is said once
+ended-once : (p : List ℕ) (o : Cursor) (r : Reader) (w : List ℕ) → Driven true p o r w → Driven true p o (finishing r) w
+unfolding endedPhase
+ended-once p o r w d = subst (λ (q : Phase). Driven true p o (inPhase r q) w) (d .phase ∙ sym (ap endedPhase (d .phase))) d
+
+-- ---- a call, and what comes behind it
+module _ (P : Cursor → Handed → Type 0) (ended : Bool) (s p z : List ℕ) (e : s ≡ p ++ z) (f : Follows ended z) (o : Cursor) (k : ℕ) (behind on : ℕ → Reader → List ℕ → Handed)
+    (token-case : (j : ℕ) (t : Token) (d : Cursor) (r : Reader) (w : List ℕ) → j ≡ k → Next s o t d → o .offset < d .offset → Driven ended p d r w → P o (token t d (behind j r w)))
+    (more-case : (j : ℕ) (r : Reader) (w : List ℕ) → j ≡ k → ended ≡ false → Driven ended p o r w → P o (on j r w))
+    (last-case : (v : Fault) → nextLexeme s (o .offset) ≡ refused v → P o (last v)) where
+  by-given : (j : ℕ) → j ≡ k → (r : Reader) (w : List ℕ) (g : Given) → Gave ended p o r w g → P o (heard (behind j r w) (on j r w) g)
+  unfolding heard
+  by-given j q r w (Given.Token t d) a = token-case j t d r w q (subst (λ (x : List ℕ). Next x o t d) (sym e) (a .0 z f)) (a .1) (a .2)
+  by-given j q r w Given.More a = more-case j r w q (a .0) (a .1)
+  by-given j q r w (Given.Refused v) a = last-case v (ap (λ (x : List ℕ). nextLexeme x (o .offset)) e ∙ a z f)
+
+  by-call : (l : Leaves) → Stepped ended p o k l → P o (call behind on l)
+  unfolding call
+  by-call (leaves g w) a = by-given (g .taken) (a .0) (g .reader) w (g .given) (a .1)
+
+-- the cursor behind a token is within the text
+driven-inside : (ended : Bool) (p : List ℕ) (o : Cursor) (r : Reader) (w : List ℕ) → Driven ended p o r w → (s z : List ℕ) → s ≡ p ++ z → Follows ended z → o .offset ≤ length s
+driven-inside ended p o r w d s z e f = let t = d .stands z f in let k = ap length e in omega (arith, t .ahead, t .inside)
+
+nothing-more : (k : ℕ) (p : List ℕ) → p ++ take k [] ≡ p
+nothing-more k p = ap (λ (x : List ℕ). p ++ x) (take-nil k) ∙ append-nil p
+
+-- ---- behind the end
+module _ (s : List ℕ) (short : length s ≤ longest) where
+  last-step : (o : Cursor) (r : Reader) (w : List ℕ) → Driven true s o r w → Stepped true s o (takes (atHand r) 0) (feeding r w [])
+  last-step o r w d =
+      subst (λ (x : List ℕ). Stepped true x o (takes (atHand r) 0) (feeding r w [])) (nothing-more (takes (atHand r) 0) s) (step true s o r w d [] (λ _. refl) (omega arith))
+
+  end-hands : (n : ℕ) (o : Cursor) (r : Reader) (w : List ℕ) → Driven true s o (finishing r) w → Hands s o (session n [] r w)
+  unfolding session
+  end-hands zero o r w d = tt
+  end-hands (suc n) o r w d =
+      by-call (Hands s) true s s [] (sym (append-nil s)) (λ _. refl) o (takes (atHand r) 0) _ _
+      (λ j t e r′ w′ q a l c. (a, end-hands n e r′ w′ (ended-once s e r′ w′ c))) (λ j r′ w′ q f c. absurd (true-false f)) (λ v a. a)
+      (feeding (finishing r) w []) (last-step o (finishing r) w d)
+
+  end-comes : (n : ℕ) (o : Cursor) (r : Reader) (w : List ℕ) → Driven true s o (finishing r) w → length s - o .offset < n → Complete (session n [] r w)
+  unfolding session
+  end-comes zero o r w d b = absurd (omega arith)
+  end-comes (suc n) o r w d b =
+      by-call (λ c h. Complete h) true s s [] (sym (append-nil s)) (λ _. refl) o (takes (atHand r) 0) _ _
+      (λ j t e r′ w′ q a l c. let i = driven-inside true s e r′ w′ c s [] (sym (append-nil s)) (λ _. refl) in end-comes n e r′ w′ (ended-once s e r′ w′ c) (omega arith)) (λ j r′ w′ q f c. absurd (true-false f)) (λ v a. tt)
+      (feeding (finishing r) w []) (last-step o (finishing r) w d)
+
+-- ---- chunk after chunk
+joined-left : (y : List ℕ) (xs : List (List ℕ)) → joined (left y xs) ≡ y ++ joined xs
+joined-left [] xs = refl
+joined-left (a ∷ y) xs = refl
+
+takes-some : (h n : ℕ) → h < mostAtHand → 0 < n → 0 < takes h n
+takes-some h n f g = go (ltb h longestToken) refl
+  where
+    go : (t : Bool) → ltb h longestToken ≡ t → 0 < min n (cond t (longestToken - h) (mostAtHand - h))
+    go true e = let a = ltb-true h longestToken e in omega arith
+    go false e = omega arith
+
+-- what is left is less
+left-less : (k : ℕ) (x : List ℕ) (xs : List (List ℕ)) → (0 < length x → 0 < k) → length (joined (left (drop k x) xs)) + length (left (drop k x) xs) < length (joined (x ∷ xs)) + length (x ∷ xs)
+left-less k x xs f = go (drop k x) (length-drop k x)
+  where
+    go : (y : List ℕ) → length y ≡ length x - k → length (joined (left y xs)) + length (left y xs) < length (joined (x ∷ xs)) + length (x ∷ xs)
+    go [] e = let a = length-append x (joined xs) in omega arith
+    go (c ∷ y) e = let a = length-append x (joined xs) in let b = length-append (c ∷ y) (joined xs) in let g = f (omega arith) in omega arith
+
+module _ (s : List ℕ) (short : length s ≤ longest) where
+  -- the first chunk of several
+  module _ (x : List ℕ) (xs : List (List ℕ)) (p : List ℕ) (e : s ≡ p ++ (x ++ joined xs)) (o : Cursor) (r : Reader) (w : List ℕ) (d : Driven false p o r w) where
+    abbrev j : ℕ
+    j = takes (atHand r) (length x)
+
+    first-step : Stepped false (p ++ take j x) o j (feeding r w x)
+    first-step =
+        let a = ap length e in
+        let b = length-append p (x ++ joined xs) in
+        let c = length-append x (joined xs) in
+        step false p o r w d x (λ f. absurd (false-true f)) (omega arith)
+
+    rest : s ≡ (p ++ take j x) ++ (drop j x ++ joined xs)
+    rest =
+        e ∙ ap (λ (u : List ℕ). p ++ (u ++ joined xs)) (sym (take-append-drop j x)) ∙ ap (λ (u : List ℕ). p ++ u) (append-assoc (take j x) (drop j x) (joined xs))
+        ∙ sym (append-assoc p (take j x) (drop j x ++ joined xs))
+
+    rest-left : s ≡ (p ++ take j x) ++ joined (left (drop j x) xs)
+    rest-left = rest ∙ ap (λ (u : List ℕ). (p ++ take j x) ++ u) (sym (joined-left (drop j x) xs))
+
+  pub session-hands : (n : ℕ) (chunks : List (List ℕ)) (p : List ℕ) → s ≡ p ++ joined chunks → (o : Cursor) (r : Reader) (w : List ℕ) → Driven false p o r w → Hands s o (session n chunks r w)
+  unfolding session
+  session-hands zero chunks p e o r w d = tt
+  session-hands (suc n) [] p e o r w d = end-hands s short (suc n) o r w (subst (λ (u : List ℕ). Driven true u o (finishing r) w) (sym (e ∙ append-nil p)) (ended-driven p o r w d))
+  session-hands (suc n) (x ∷ xs) p e o r w d =
+      by-call (Hands s) false s (p ++ take (j x xs p e o r w d) x) (drop (j x xs p e o r w d) x ++ joined xs) (rest x xs p e o r w d) (λ f. absurd (false-true f)) o (j x xs p e o r w d) _ _
+      (λ i t c r′ w′ q a l b. (a, session-hands n (drop i x ∷ xs) (p ++ take i x) (subst (λ (k : ℕ). s ≡ (p ++ take k x) ++ (drop k x ++ joined xs)) (sym q) (rest x xs p e o r w d)) c r′ w′ (subst (λ (k : ℕ). Driven false (p ++ take k x) c r′ w′) (sym q) b)))
+      (λ i r′ w′ q f b. session-hands n (left (drop i x) xs) (p ++ take i x) (subst (λ (k : ℕ). s ≡ (p ++ take k x) ++ joined (left (drop k x) xs)) (sym q) (rest-left x xs p e o r w d)) o r′ w′ (subst (λ (k : ℕ). Driven false (p ++ take k x) o r′ w′) (sym q) b))
+      (λ v a. a) (feeding r w x) (first-step x xs p e o r w d)
+
+  pub session-comes : (n : ℕ) (chunks : List (List ℕ)) (p : List ℕ) → s ≡ p ++ joined chunks → (o : Cursor) (r : Reader) (w : List ℕ) → Driven false p o r w
+      → length s - o .offset + (length (joined chunks) + length chunks) < n → Complete (session n chunks r w)
+  unfolding session
+  session-comes zero chunks p e o r w d b = absurd (omega arith)
+  session-comes (suc n) [] p e o r w d b = end-comes s short (suc n) o r w (subst (λ (u : List ℕ). Driven true u o (finishing r) w) (sym (e ∙ append-nil p)) (ended-driven p o r w d)) (omega arith)
+  session-comes (suc n) (x ∷ xs) p e o r w d b =
+      by-call (λ c h. Complete h) false s (p ++ take (j x xs p e o r w d) x) (drop (j x xs p e o r w d) x ++ joined xs) (rest x xs p e o r w d) (λ f. absurd (false-true f)) o (j x xs p e o r w d) _ _
+      (λ i t c r′ w′ q a l g.
+      let h = subst (λ (k : ℕ). s ≡ (p ++ take k x) ++ (drop k x ++ joined xs)) (sym q) (rest x xs p e o r w d) in
+      let y = subst (λ (k : ℕ). Driven false (p ++ take k x) c r′ w′) (sym q) g in
+      let z = driven-inside false (p ++ take i x) c r′ w′ y s (drop i x ++ joined xs) h (λ f. absurd (false-true f)) in
+      let a₁ = length-append x (joined xs) in
+      let a₂ = length-append (drop i x) (joined xs) in
+      let a₃ = length-drop i x in
+      session-comes n (drop i x ∷ xs) (p ++ take i x) h c r′ w′ y (omega arith))
+      (λ i r′ w′ q f g.
+      let h = subst (λ (k : ℕ). s ≡ (p ++ take k x) ++ joined (left (drop k x) xs)) (sym q) (rest-left x xs p e o r w d) in
+      let y = subst (λ (k : ℕ). Driven false (p ++ take k x) o r′ w′) (sym q) g in
+      let z = left-less i x xs (λ u. subst (λ (k : ℕ). 0 < k) (sym q) (takes-some (atHand r) (length x) (d .few) u)) in
+      session-comes n (left (drop i x) xs) (p ++ take i x) h o r′ w′ y (omega arith))
+      (λ v a. tt) (feeding r w x) (first-step x xs p e o r w d)
+
+-- ---- from the start
+
+-- so many calls are enough
+abbrev pub calls : List (List ℕ) → ℕ
+calls chunks = suc (length (joined chunks) + (length (joined chunks) + length chunks))
+
+module _ (chunks : List (List ℕ)) (w : List ℕ) (size : length w ≡ windowSize) (short : length (joined chunks) ≤ longest) where
+  pub hands-whole : Hands (joined chunks) startCursor (session (calls chunks) chunks begun w)
+  hands-whole = session-hands (joined chunks) short (calls chunks) chunks [] refl startCursor begun w (begun-driven w size)
+
+  pub comes-whole : Complete (session (calls chunks) chunks begun w)
+  comes-whole = session-comes (joined chunks) short (calls chunks) chunks [] refl startCursor begun w (begun-driven w size) (omega arith)
+
+pub cuts-agree : (a b : List (List ℕ)) (v w : List ℕ) → length v ≡ windowSize → length w ≡ windowSize → joined a ≡ joined b → length (joined a) ≤ longest → session (calls a) a begun v ≡ session (calls b) b begun w
+cuts-agree a b v w m n e h =
+    let k : length (joined b) ≤ longest = subst (λ (s : List ℕ). length s ≤ longest) e h in
+    unique (joined a) (session (calls a) a begun v) (session (calls b) b begun w) startCursor (hands-whole a v m h)
+    (subst (λ (s : List ℕ). Hands s startCursor (session (calls b) b begun w)) (sym e) (hands-whole b w n k)) (comes-whole a v m h) (comes-whole b w n k)
