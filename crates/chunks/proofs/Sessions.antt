@@ -16,6 +16,7 @@ use Rattle.lexer.specs.declared.token.Token.{Token}
 use Rattle.lexer.proofs.Calls.{passes}
 use Rattle.chunks.specs.Feed.{Leaves, leaves, atHand, handIn, delivered, windowSize, mostAtHand, sound, admitted, takes, placeOf, place, endOfHand, filledWith, gave, took, offered, byPhase, feeding, begun, endedPhase, inPhase, finishing}
 use Rattle.chunks.specs.Reader.{Gives, handed, more, never, reading, Passable}
+use Rattle.chunks.specs.Shift.{unknown}
 use Rattle.chunks.specs.Session.{left, told as heard, call, session}
 use Rattle.chunks.specs.Whole.{longestToken, nextLexeme, Handed, token, last, stuck, Next, Hands, Complete, joined}
 use Rattle.chunks.specs.declared.delivery.Fed.{Fed}
@@ -27,8 +28,14 @@ use Rattle.chunks.specs.declared.layout.Mode.the-variants.{Blank as blan
 use Rattle.chunks.proofs.Counts.{Rest, Counts, reading-counts}
 use Rattle.chunks.proofs.Cuts.{fed-stands, unique}
 use Rattle.chunks.proofs.Feeds.{last-part, takes-few, takes-room, place-front, place-room, behind-hand, behind-length}
-use Rattle.chunks.proofs.Prompt.{begun-after, asked-few}
+use Rattle.chunks.proofs.Prompt.{begun-after, asked-few, more-uncertain}
 use Rattle.chunks.proofs.Reading.{Stands, Tells, reading-tells}
+
+false-true : false ≡ true → ⊥
+false-true e = let y : _≡_ {A = ℕ} 0 1 = cc in omega arith
+
+true-false : true ≡ false → ⊥
+true-false e = false-true (sym e)
 
 abbrev phaseOf : Bool → Phase
 phaseOf ended = cond ended Phase.Ended Phase.Open
@@ -67,10 +74,14 @@ none-taken k c z e f = ap (λ (y : List ℕ). take k y ++ z) e ∙ ap (λ (y : L
 
 -- ---- one call
 
+-- p is in truth not enough: with fewer than 1,025 bytes at hand, what comes next is another if a foreign byte follows than if the text ends there
+abbrev pub Unsure : List ℕ → Cursor → Reader → Type 0
+Unsure p o r = atHand r < longestToken + 1 → nextLexeme (p ++ unknown ∷ []) (o .offset) ≡ nextLexeme p (o .offset) → ⊥
+
 -- what it gives, of every text that goes on from p: the next token, and the reader stands behind it; or more is wanted, and it stands further on; or the refusal
 abbrev pub Gave : Bool → List ℕ → Cursor → Reader → List ℕ → Given → Type 0
 Gave ended p o r w (Given.Token t d) = ((z : List ℕ) → Follows ended z → Next (p ++ z) o t d) × (o .offset < d .offset) × Driven ended p d r w
-Gave ended p o r w Given.More = (ended ≡ false) × Driven ended p o r w
+Gave ended p o r w Given.More = (ended ≡ false) × Driven ended p o r w × Unsure p o r
 Gave ended p o r w (Given.Refused v) = (z : List ℕ) → Follows ended z → nextLexeme (p ++ z) (o .offset) ≡ refused v
 
 -- k bytes are taken, and with them p is delivered
@@ -216,13 +227,25 @@ module _ (ended : Bool) (p : List ℕ) (o : Cursor) (r : Reader) (w : List ℕ) 
   by-gives (handed t e u) g c tell =
       let n = hand-few in
       let y = c .count in
-      let a = c .ahead in
-      (refl,
-      ((λ z f. tell z f .0),
-      tell [] (λ _. refl) .2,
-      driven-on e blank e false u (record { ahead = omega arith; count = c .count; able = c .able }) (omega arith) (λ z f. tell z f .1)))
+      let a = c .ahead in (
+        refl,
+        (
+          (λ z f. tell z f .0),
+          tell [] (λ _. refl) .2,
+          driven-on e blank e false u (record { ahead = omega arith; count = c .count; able = c .able }) (omega arith) (λ z f. tell z f .1),
+        ),
+      )
   by-gives (more m′ c′ l′ u′) g c tell =
-      (refl, (tell [] (λ _. refl) .1, driven-on o m′ c′ l′ u′ c (asked-few m′ c′ l′ u′ ended (r .mode) (r .cursor) (r .layout) v able g) (λ z f. tell z f .0)))
+      let e = tell [] (λ _. refl) .1 in
+      let few = asked-few m′ c′ l′ u′ ended (r .mode) (r .cursor) (r .layout) v able g in
+      let n = at-hand o m′ c′ l′ u′ c few (λ z f. tell z f .0) in (
+        refl,
+        (
+          e,
+          driven-on o m′ c′ l′ u′ c few (λ z f. tell z f .0),
+          (λ h q. more-uncertain (p ++ x) o (r .mode) (r .cursor) (r .layout) v (λ z. stands′ z (λ b. absurd (true-false (sym b ∙ e)))) m′ c′ l′ u′ (ap (λ (b : Bool). reading b (r .mode) (r .cursor) (r .layout) v) (sym e) ∙ g) (omega arith) q),
+        ),
+      )
   by-gives (never w) g c tell = (refl, tell)
 
   -- one call
@@ -232,12 +255,6 @@ module _ (ended : Bool) (p : List ℕ) (o : Cursor) (r : Reader) (w : List ℕ) 
       (by-gives (reading ended (r .mode) (r .cursor) (r .layout) v) refl (reading-counts ended (r .mode) (r .cursor) (r .layout) v able) told)
 
 -- ---- the reader at its start, and when the end is said
-false-true : false ≡ true → ⊥
-false-true e = let y : _≡_ {A = ℕ} 0 1 = cc in omega arith
-
-true-false : true ≡ false → ⊥
-true-false e = false-true (sym e)
-
 pub begun-driven : (w : List ℕ) → length w ≡ windowSize → Driven false [] startCursor begun w
 begun-driven w l =
     record {
