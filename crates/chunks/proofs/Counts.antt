@@ -1,7 +1,7 @@
 -- What is given of the bytes at hand leaves the others at hand, and a cursor that can move over them. Assumes nothing.
 use mathlib.Core.Path.{_≡_, refl, sym, subst, _∙_, ap}
 use mathlib.Core.Bool.{Bool, true, false, cond}
-use mathlib.Core.List.{List, []}
+use mathlib.Core.List.{List, [], append-nil}
 use Prim.Native.Nat.{ℕ, _+_, _-_, _<_, _≤_}
 use native.Mathlib.Omega.{arith}
 use lib.ListN.{length, take, drop, length-drop}
@@ -17,7 +17,6 @@ use Rattle.chunks.specs.declared.layout.Mode.{Mode}
 use Rattle.chunks.specs.declared.pass.Why.{Why}
 use Rattle.chunks.specs.declared.pass.Why.the-variants.{Starts, Waits, Stops}
 use Rattle.chunks.proofs.Hands.{hand-right}
-use Rattle.chunks.proofs.Judges.{append-none}
 use Rattle.chunks.proofs.Passing.{Onward, OnwardTo, pass-onward}
 use Rattle.chunks.proofs.Verdicts.{Right}
 
@@ -45,7 +44,7 @@ module _ (from sum : ℕ) (m : Mode) (d : Cursor) (l : Bool) (u : List ℕ) (r :
       let v : Valid longest (walk d (take e u)) = walk-valid longest d (take e u) (record { short = omega arith; offset = omega arith; line = r .able .line; column = r .able .column }) (omega arith) in
       record { ahead = omega arith; count = omega arith; able = record { short = omega arith; line = v .line; column = v .column } }
 
-  judged-counts : (some : 0 < length u) (ended : Bool) (k : Verdict) → Right l u 0 u [] (append-none u) (omega arith) some ended (λ _. refl) k → Counts from sum (judged m d l u k)
+  judged-counts : (some : 0 < length u) (ended : Bool) (k : Verdict) → Right l u 0 u [] (sym (append-nil u)) (omega arith) some ended (λ _. refl) k → Counts from sum (judged m d l u k)
   unfolding judged
   judged-counts some ended (settled (lexeme t e x)) q = further e (q .1 .0) (q .1 .1)
   judged-counts some ended (settled (refused w)) q = tt

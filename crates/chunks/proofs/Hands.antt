@@ -2,7 +2,7 @@
 use mathlib.Core.Path.{_≡_, refl, sym, subst, _∙_, ap}
 use mathlib.Core.Logic.{_⊎_, inl, inr}
 use mathlib.Core.Bool.{Bool, true, false, cond}
-use mathlib.Core.List.{List, [], _∷_, _++_}
+use mathlib.Core.List.{List, [], _∷_, _++_, append-nil}
 use Prim.Native.Nat.{ℕ, zero, suc, _+_, _-_, _<_, _≤_}
 use native.Mathlib.Omega.{arith}
 use lib.ListN.{length, take, drop, length-append, length-drop}
@@ -29,7 +29,7 @@ use Rattle.chunks.specs.declared.pass.Place.{Place}
 use Rattle.chunks.specs.declared.pass.Why.{Why}
 use Rattle.chunks.specs.declared.pass.Why.the-variants.{Starts, Waits, Stops}
 use Rattle.chunks.specs.declared.verdict.Judgement.{Judgement}
-use Rattle.chunks.proofs.Judges.{append-none, judge-told}
+use Rattle.chunks.proofs.Judges.{judge-told}
 use Rattle.chunks.proofs.Moves.{walk-moved}
 use Rattle.chunks.proofs.Passing.{Onward, placed-on}
 use Rattle.chunks.proofs.Verdicts.{Right, verdict-right}
@@ -54,8 +54,8 @@ shift-none (lexeme t e x) =
 shift-none (refused w) = let k : 0 + w .offset ≡ w .offset = omega arith in ap (λ (i : ℕ). refused (fault (w .refusal) i)) k
 
 -- what the verdict says holds of the text that is the bytes at hand
-pub hand-right : (layout ended : Bool) (v : List ℕ) (some : 0 < length v) → Right layout v 0 v [] (append-none v) (omega arith) some ended (λ _. refl) (verdict ended layout v)
-hand-right layout ended v some = verdict-right layout v 0 v [] (append-none v) (omega arith) some ended (λ _. refl)
+pub hand-right : (layout ended : Bool) (v : List ℕ) (some : 0 < length v) → Right layout v 0 v [] (sym (append-nil v)) (omega arith) some ended (λ _. refl) (verdict ended layout v)
+hand-right layout ended v some = verdict-right layout v 0 v [] (sym (append-nil v)) (omega arith) some ended (λ _. refl)
 
 module _ (layout ended : Bool) (v : List ℕ) (some : 0 < length v) (c : Cursor) (able : Passable (length v) c) where
   -- the token of that text, or 15 at its start
@@ -88,7 +88,7 @@ module _ (layout ended : Bool) (v : List ℕ) (some : 0 < length v) (c : Cursor)
       })
 
   -- a verdict that holds of that text is one whose sums fit
-  verdict-fits : (k : Verdict) → Right layout v 0 v [] (append-none v) (omega arith) some ended (λ _. refl) k → Fits c (told v k)
+  verdict-fits : (k : Verdict) → Right layout v 0 v [] (sym (append-nil v)) (omega arith) some ended (λ _. refl) k → Fits c (told v k)
   unfolding told
   verdict-fits (settled (lexeme t e x)) r = record { sums = sums e (r .1 .1); start = go (in-limit (lexeme t e x) (r .0)) }
     where

@@ -35,7 +35,6 @@ use Rattle.chunks.specs.Verdict.{Verdict, settled, tooLong, waiting, vie
 use Rattle.chunks.specs.Whole.{longestToken, tokenAt, cutAt, cameTo, ownByte, showing, unshown, longerThan, endOf, tokenEnd, longer, limited, nextLexeme}
 use Rattle.chunks.proofs.Cuts.{fed-stands}
 use Rattle.chunks.proofs.Hands.{hand-right}
-use Rattle.chunks.proofs.Judges.{append-none}
 use Rattle.chunks.proofs.Kept.{Near, Shows}
 use Rattle.chunks.proofs.Layouts.{turn-tells, rest-there}
 use Rattle.chunks.proofs.Passing.{Onward, pass-onward}
@@ -439,7 +438,7 @@ module _ (m′ : Mode) (c′ : Cursor) (l′ : Bool) (u′ : List ℕ) (ended : 
   given-few m c l u starts t some e =
       let j = judged-more m c l u m′ c′ l′ u′ (verdict ended l u) e in
       let r = hand-right l ended u (some refl) in
-      let b : (ended ≡ false) × (length u < longestToken + 3) = subst (Right l u 0 u [] (append-none u) (omega arith) (some refl) ended (λ _. refl)) (j .0) r in
+      let b : (ended ≡ false) × (length u < longestToken + 3) = subst (Right l u 0 u [] (sym (append-nil u)) (omega arith) (some refl) ended (λ _. refl)) (j .0) r in
       subst (λ (x : List ℕ). length x < longestToken + 3) (j .1) (b .1)
   given-few m c l u (waits w) t some e =
       let f = waits-asked m c l u w ended e in

@@ -18,8 +18,21 @@ ghost use Rattle.chunks.specs.Answers.{answerCame, answerEnd, answerOwn,
 ghost use Prim.Native.Nat.{min};
 ghost use Rattle.chunks.specs.Verdict.{view};
 
-// The number of refusal 5.
+// Refusals, by their numbers.
+const BAD_QUOTED: u8 = 4;
+
 const FOREIGN_BYTE: u8 = 5;
+
+const SET_ASIDE: u8 = 6;
+
+// 02: a token has at most so many bytes.
+pub(crate) const LONGEST_TOKEN: usize = 1024;
+
+// With one more it is too long, unless it is a number that may put bytes back.
+const LIMIT: usize = 1025;
+
+// With these it is known.
+pub(crate) const MOST_AT_HAND: usize = 1027;
 
 // Whether a reading came to the unknown byte, which is at `n`.
 fn came_to(answer: Answer, n: usize) -> bool
@@ -59,10 +72,10 @@ fn own_byte(answer: Answer) -> bool
         Answer::Refused { fault, cursor: _ } => {
             let refusal = fault.refusal;
             let number = refusal_number(refusal);
-            if number == 4 {
+            if number == BAD_QUOTED {
                 return true;
             }
-            number == 6
+            number == SET_ASIDE
         }
     }
 }
@@ -161,8 +174,6 @@ fn settled_by(answer: Answer) -> Judgement
     }
 }
 
-const LONGEST: usize = 1024;
-
 // A refusal 4 or 6 that the first 1,024 bytes do not show.
 fn is_late(shown: &[u8], layout: bool, answer: Answer) -> bool
     requires { ⌜ Viewed (now shown) 1024 ⌝ }
@@ -170,10 +181,10 @@ fn is_late(shown: &[u8], layout: bool, answer: Answer) -> bool
 {
     if own_byte(answer) {
         let n = shown.len() - 1;
-        if n < LONGEST {
+        if n < LONGEST_TOKEN {
             return false;
         }
-        return came_to(cut_token(shown, LONGEST, layout), LONGEST);
+        return came_to(cut_token(shown, LONGEST_TOKEN, layout), LONGEST_TOKEN);
     }
     false
 }
@@ -184,7 +195,7 @@ fn token_length(shown: &[u8], ended: bool, answer: Answer) -> usize
     ensures { λ r. ⌜ r ≡ lengthOf ended (handOf (now (shown .entry))) answer ⌝ }
 {
     if is_digit(shown[0]) {
-        return view_number(shown, 1025, ended);
+        return view_number(shown, LIMIT, ended);
     }
     answer_end(answer)
 }
@@ -194,7 +205,7 @@ fn by_end(shown: &[u8], ended: bool, layout: bool, answer: Answer) -> Judgement
     requires { ⌜ Viewed (now shown) 1025 ⌝ }
     ensures { λ r. ⌜ r ≡ byEndOf layout ended (handOf (now (shown .entry))) answer ⌝ }
 {
-    if LONGEST < token_length(shown, ended, answer) {
+    if LONGEST_TOKEN < token_length(shown, ended, answer) {
         return Judgement::Long;
     }
     if is_late(shown, layout, answer) {
@@ -217,7 +228,7 @@ fn by_border(end: usize, answer: Answer) -> Judgement
     if end == 0 {
         return Judgement::Long;
     }
-    if LONGEST < end {
+    if LONGEST_TOKEN < end {
         return Judgement::Long;
     }
     settled_by(answer)
@@ -228,14 +239,14 @@ fn at_border(shown: &[u8], ended: bool, layout: bool) -> Judgement
     ensures { λ r. ⌜ r ≡ borderOf layout ended (handOf (now (shown .entry))) ⌝ }
 {
     let n = shown.len() - 1;
-    let answer = view_token(shown, 1027, ended, layout);
-    if came_to(answer, lesser(n, 1027)) {
-        if n < 1027 {
+    let answer = view_token(shown, MOST_AT_HAND, ended, layout);
+    if came_to(answer, lesser(n, MOST_AT_HAND)) {
+        if n < MOST_AT_HAND {
             return Judgement::Waiting;
         }
         return Judgement::Long;
     }
-    by_border(view_number(shown, 1027, ended), answer)
+    by_border(view_number(shown, MOST_AT_HAND, ended), answer)
 }
 
 // More than 1,024 bytes are at hand, and the reading came behind the first 1,025.
@@ -244,7 +255,7 @@ fn at_limit(shown: &[u8], ended: bool, layout: bool) -> Judgement
     ensures { λ r. ⌜ r ≡ limitOf layout ended (handOf (now (shown .entry))) ⌝ }
 {
     if is_digit(shown[0]) {
-        if may_return(shown[1024]) {
+        if may_return(shown[LONGEST_TOKEN]) {
             return at_border(shown, ended, layout);
         }
         return Judgement::Long;
@@ -258,9 +269,9 @@ pub(crate) fn judge(shown: &[u8], ended: bool, layout: bool) -> Judgement
     ensures { λ r. ⌜ r ≡ judgeOf layout ended (handOf (now (shown .entry))) ⌝ }
 {
     let n = shown.len() - 1;
-    let answer = view_token(shown, 1025, ended, layout);
-    if came_to(answer, lesser(n, 1025)) {
-        if n < 1025 {
+    let answer = view_token(shown, LIMIT, ended, layout);
+    if came_to(answer, lesser(n, LIMIT)) {
+        if n < LIMIT {
             return Judgement::Waiting;
         }
         return at_limit(shown, ended, layout);

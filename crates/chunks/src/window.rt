@@ -1,4 +1,6 @@
 // The window: the bytes at hand are moved to its front, and those of a chunk are put behind them.
+use crate::verdict::LONGEST_TOKEN;
+use crate::verdict::MOST_AT_HAND;
 use crate::verdict::lesser;
 ghost use mathlib.Core.Path.{_≡_};
 ghost use lib.ListN.{length, drop, set};
@@ -15,10 +17,6 @@ const UNKNOWN: u8 = 0;
 
 // Behind it half of the window is free for the bytes at hand.
 const HALF: usize = 1028;
-
-const LONGEST_TOKEN: usize = 1024;
-
-const MOST_AT_HAND: usize = 1027;
 
 // How many of `n` bytes are taken to the `hand` at hand.
 pub(crate) fn bytes_taken(hand: usize, n: usize) -> usize
