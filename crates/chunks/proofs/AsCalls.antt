@@ -34,10 +34,7 @@ use Rattle.lexer.proofs.Cursors.{move-valid}
 use Rattle.lexer.proofs.Promises.{lexeme-ends, token-there}
 use Rattle.lexer.proofs.Spans.{by-test}
 use Rattle.chunks.specs.Whole.{longestToken, tokenAt, endOf, tokenEnd, longerThan, showing, longer, limited, afterLayout as afterLayoutLimited, nextLexeme, Handed, token, last, stuck, Next, Hands, TooLong, Calls, NoneLonger}
-use Rattle.chunks.proofs.Windows.{digit-token}
-
-true-false : (t : Bool) → t ≡ true → t ≡ false → ⊥
-true-false t p q = let y : _≡_ {A = ℕ} 0 1 = cc in omega arith
+use Rattle.chunks.proofs.Windows.{true-false, digit-token}
 
 refused-lexeme : (w : Fault) (t : Token) (e : ℕ) (x : Text) → refused w ≡ lexeme t e x → ⊥
 refused-lexeme w t e x q = let y : _≡_ {A = ℕ} 0 1 = cc in omega arith

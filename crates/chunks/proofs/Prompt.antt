@@ -41,7 +41,7 @@ use Rattle.chunks.proofs.Passing.{Onward, pass-onward}
 use Rattle.chunks.proofs.Reading.{Stands, PassTold, pass-told, refused-there, starts-there, Tells, reading-tells}
 use Rattle.chunks.proofs.Tokens.{LexemeKept, LexemeUpto, lexeme-kept}
 use Rattle.chunks.proofs.Verdicts.{Right, none-end, is-shown, is-short}
-use Rattle.chunks.proofs.Windows.{cut-length, cut-byte, shows-cut, shows-end, came-hit, near-gone, digit-token, numbered-hit, plain-hit}
+use Rattle.chunks.proofs.Windows.{end-other, cut-length, cut-byte, shows-cut, shows-end, came-hit, near-gone, digit-token, numbered-hit, plain-hit}
 
 -- ---- a wait in layout
 
@@ -125,9 +125,6 @@ Other u (wait w) = (w .refusal ≡ ForeignByte → ⊥) × (length u ≤ 2)
 Other u (stop w) = Unit {0}
 
 -- the refusals that a wait holds
-end-other : EndOfText ≡ ForeignByte → ⊥
-end-other q = let y : _≡_ {A = ℕ} 0 1 = cc in omega arith
-
 comment-other : UnclosedComment ≡ ForeignByte → ⊥
 comment-other q = let y : _≡_ {A = ℕ} 0 1 = cc in omega arith
 
@@ -301,7 +298,7 @@ module _ (layout : Bool) (v : List ℕ) (few : length v < longestToken + 1) wher
 
 -- ---- what the text has next
 -- the text has not ended
-never-ended : {A : Type 0} → false ≡ true → A
+pub never-ended : {A : Type 0} → false ≡ true → A
 never-ended e = let y : _≡_ {A = ℕ} 0 1 = cc in absurd (omega arith)
 
 -- more is asked for with the bytes at hand where the passing stopped, and, at a token, where the verdict waits

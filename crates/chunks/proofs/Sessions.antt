@@ -28,14 +28,8 @@ use Rattle.chunks.specs.declared.layout.Mode.the-variants.{Blank as blan
 use Rattle.chunks.proofs.Counts.{Rest, Counts, reading-counts}
 use Rattle.chunks.proofs.Cuts.{fed-stands, unique}
 use Rattle.chunks.proofs.Feeds.{last-part, takes-few, takes-room, place-front, place-room, behind-hand, behind-length}
-use Rattle.chunks.proofs.Prompt.{begun-after, asked-few, more-uncertain}
+use Rattle.chunks.proofs.Prompt.{never-ended, begun-after, asked-few, more-uncertain}
 use Rattle.chunks.proofs.Reading.{Stands, Tells, reading-tells}
-
-false-true : false ≡ true → ⊥
-false-true e = let y : _≡_ {A = ℕ} 0 1 = cc in omega arith
-
-true-false : true ≡ false → ⊥
-true-false e = false-true (sym e)
 
 abbrev phaseOf : Bool → Phase
 phaseOf ended = cond ended Phase.Ended Phase.Open
@@ -243,7 +237,7 @@ module _ (ended : Bool) (p : List ℕ) (o : Cursor) (r : Reader) (w : List ℕ) 
         (
           e,
           driven-on o m′ c′ l′ u′ c few (λ z f. tell z f .0),
-          (λ h q. more-uncertain (p ++ x) o (r .mode) (r .cursor) (r .layout) v (λ z. stands′ z (λ b. absurd (true-false (sym b ∙ e)))) m′ c′ l′ u′ (ap (λ (b : Bool). reading b (r .mode) (r .cursor) (r .layout) v) (sym e) ∙ g) (omega arith) q),
+          (λ h q. more-uncertain (p ++ x) o (r .mode) (r .cursor) (r .layout) v (λ z. stands′ z (λ b. never-ended (sym e ∙ b))) m′ c′ l′ u′ (ap (λ (b : Bool). reading b (r .mode) (r .cursor) (r .layout) v) (sym e) ∙ g) (omega arith) q),
         ),
       )
   by-gives (never w) g c tell = (refl, tell)
@@ -279,7 +273,7 @@ ended-driven p o r w d =
       few = d .few;
       count = d .count;
       able = d .able;
-      stands = λ z f. d .stands z (λ e. absurd (false-true e));
+      stands = λ z f. d .stands z (λ e. never-ended e);
     }
 
 -- it is said once
@@ -320,7 +314,7 @@ module _ (s : List ℕ) (short : length s ≤ longest) where
   end-hands zero o r w d = tt
   end-hands (suc n) o r w d =
       by-call (Hands s) true s s [] (sym (append-nil s)) (λ _. refl) o (takes (atHand r) 0) _ _
-      (λ j t e r′ w′ q a l c. (a, end-hands n e r′ w′ (ended-once s e r′ w′ c))) (λ j r′ w′ q f c. absurd (true-false f)) (λ v a. a)
+      (λ j t e r′ w′ q a l c. (a, end-hands n e r′ w′ (ended-once s e r′ w′ c))) (λ j r′ w′ q f c. never-ended (sym f)) (λ v a. a)
       (feeding (finishing r) w []) (last-step o (finishing r) w d)
 
   end-comes : (n : ℕ) (o : Cursor) (r : Reader) (w : List ℕ) → Driven true s o (finishing r) w → length s - o .offset < n → Complete (session n [] r w)
@@ -328,7 +322,7 @@ module _ (s : List ℕ) (short : length s ≤ longest) where
   end-comes zero o r w d b = absurd (omega arith)
   end-comes (suc n) o r w d b =
       by-call (λ c h. Complete h) true s s [] (sym (append-nil s)) (λ _. refl) o (takes (atHand r) 0) _ _
-      (λ j t e r′ w′ q a l c. let i = driven-inside true s e r′ w′ c s [] (sym (append-nil s)) (λ _. refl) in end-comes n e r′ w′ (ended-once s e r′ w′ c) (omega arith)) (λ j r′ w′ q f c. absurd (true-false f)) (λ v a. tt)
+      (λ j t e r′ w′ q a l c. let i = driven-inside true s e r′ w′ c s [] (sym (append-nil s)) (λ _. refl) in end-comes n e r′ w′ (ended-once s e r′ w′ c) (omega arith)) (λ j r′ w′ q f c. never-ended (sym f)) (λ v a. tt)
       (feeding (finishing r) w []) (last-step o (finishing r) w d)
 
 -- ---- chunk after chunk
@@ -362,7 +356,7 @@ module _ (s : List ℕ) (short : length s ≤ longest) where
         let a = ap length e in
         let b = length-append p (x ++ joined xs) in
         let c = length-append x (joined xs) in
-        step false p o r w d x (λ f. absurd (false-true f)) (omega arith)
+        step false p o r w d x (λ f. never-ended f) (omega arith)
 
     rest : s ≡ (p ++ take j x) ++ (drop j x ++ joined xs)
     rest =
@@ -377,7 +371,7 @@ module _ (s : List ℕ) (short : length s ≤ longest) where
   session-hands zero chunks p e o r w d = tt
   session-hands (suc n) [] p e o r w d = end-hands s short (suc n) o r w (subst (λ (u : List ℕ). Driven true u o (finishing r) w) (sym (e ∙ append-nil p)) (ended-driven p o r w d))
   session-hands (suc n) (x ∷ xs) p e o r w d =
-      by-call (Hands s) false s (p ++ take (j x xs p e o r w d) x) (drop (j x xs p e o r w d) x ++ joined xs) (rest x xs p e o r w d) (λ f. absurd (false-true f)) o (j x xs p e o r w d) _ _
+      by-call (Hands s) false s (p ++ take (j x xs p e o r w d) x) (drop (j x xs p e o r w d) x ++ joined xs) (rest x xs p e o r w d) (λ f. never-ended f) o (j x xs p e o r w d) _ _
       (λ i t c r′ w′ q a l b. (a, session-hands n (drop i x ∷ xs) (p ++ take i x) (subst (λ (k : ℕ). s ≡ (p ++ take k x) ++ (drop k x ++ joined xs)) (sym q) (rest x xs p e o r w d)) c r′ w′ (subst (λ (k : ℕ). Driven false (p ++ take k x) c r′ w′) (sym q) b)))
       (λ i r′ w′ q f b. session-hands n (left (drop i x) xs) (p ++ take i x) (subst (λ (k : ℕ). s ≡ (p ++ take k x) ++ joined (left (drop k x) xs)) (sym q) (rest-left x xs p e o r w d)) o r′ w′ (subst (λ (k : ℕ). Driven false (p ++ take k x) o r′ w′) (sym q) b))
       (λ v a. a) (feeding r w x) (first-step x xs p e o r w d)
@@ -388,11 +382,11 @@ module _ (s : List ℕ) (short : length s ≤ longest) where
   session-comes zero chunks p e o r w d b = absurd (omega arith)
   session-comes (suc n) [] p e o r w d b = end-comes s short (suc n) o r w (subst (λ (u : List ℕ). Driven true u o (finishing r) w) (sym (e ∙ append-nil p)) (ended-driven p o r w d)) (omega arith)
   session-comes (suc n) (x ∷ xs) p e o r w d b =
-      by-call (λ c h. Complete h) false s (p ++ take (j x xs p e o r w d) x) (drop (j x xs p e o r w d) x ++ joined xs) (rest x xs p e o r w d) (λ f. absurd (false-true f)) o (j x xs p e o r w d) _ _
+      by-call (λ c h. Complete h) false s (p ++ take (j x xs p e o r w d) x) (drop (j x xs p e o r w d) x ++ joined xs) (rest x xs p e o r w d) (λ f. never-ended f) o (j x xs p e o r w d) _ _
       (λ i t c r′ w′ q a l g.
       let h = subst (λ (k : ℕ). s ≡ (p ++ take k x) ++ (drop k x ++ joined xs)) (sym q) (rest x xs p e o r w d) in
       let y = subst (λ (k : ℕ). Driven false (p ++ take k x) c r′ w′) (sym q) g in
-      let z = driven-inside false (p ++ take i x) c r′ w′ y s (drop i x ++ joined xs) h (λ f. absurd (false-true f)) in
+      let z = driven-inside false (p ++ take i x) c r′ w′ y s (drop i x ++ joined xs) h (λ f. never-ended f) in
       let a₁ = length-append x (joined xs) in
       let a₂ = length-append (drop i x) (joined xs) in
       let a₃ = length-drop i x in
