@@ -36,18 +36,18 @@ use Rattle.lexer.proofs.Spans.{by-test}
 use Rattle.chunks.specs.Whole.{longestToken, tokenAt, endOf, tokenEnd, longerThan, showing, longer, limited, afterLayout as afterLayoutLimited, nextLexeme, Handed, token, last, stuck, Next, Hands, TooLong, Calls, NoneLonger}
 use Rattle.chunks.proofs.Windows.{true-false, digit-token}
 
-refused-lexeme : (w : Fault) (t : Token) (e : ℕ) (x : Text) → refused w ≡ lexeme t e x → ⊥
+pub refused-lexeme : (w : Fault) (t : Token) (e : ℕ) (x : Text) → refused w ≡ lexeme t e x → ⊥
 refused-lexeme w t e x q = let y : _≡_ {A = ℕ} 0 1 = cc in omega arith
 
 module _ (s : List ℕ) where
   -- 15, for a token that is too long
-  record Fifteen (c : Cursor) (a : Lexeme) : Type 0 where
-    fault-there : Fault
-    refuses : a ≡ refused fault-there
-    long : TooLong s c fault-there
+  pub record Fifteen (c : Cursor) (a : Lexeme) : Type 0 where
+    pub fault-there : Fault
+    pub refuses : a ≡ refused fault-there
+    pub long : TooLong s c fault-there
 
   -- what comes next is the token call's, or that
-  next-cases : (c : Cursor) → (readLexeme false s (c .offset) ≡ nextLexeme s (c .offset)) ⊎ Fifteen c (nextLexeme s (c .offset))
+  pub next-cases : (c : Cursor) → (readLexeme false s (c .offset) ≡ nextLexeme s (c .offset)) ⊎ Fifteen c (nextLexeme s (c .offset))
   unfolding afterLayout afterLayoutLimited
   next-cases c = go (layoutEnd s (c .offset)) refl
     where
@@ -65,7 +65,7 @@ module _ (s : List ℕ) where
           (token-cases at e (longer (ltb (c .offset) at) s at) refl)
 
   -- the token call from a valid cursor
-  answers : (c : Cursor) → Valid (length s) c → (a : Lexeme) → readLexeme false s (c .offset) ≡ a → nextToken s c ≡ answered s c a
+  pub answers : (c : Cursor) → Valid (length s) c → (a : Lexeme) → readLexeme false s (c .offset) ≡ a → nextToken s c ≡ answered s c a
   answers c v a e = rw (passes (length s) c v) (ap (answered s c) e)
 
   -- a token that is handed out is the call's, and the cursor behind it is valid

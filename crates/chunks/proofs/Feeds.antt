@@ -15,7 +15,7 @@ use Rattle.lexer.proofs.Cursors.{both, is-valid}
 use Rattle.lexer.specs.Cursor.{part}
 use Rattle.lexer.specs.declared.cursor.Cursor.{Cursor}
 use Rattle.chunks.specs.Answers.{handOf}
-use Rattle.chunks.specs.Feed.{atHand, handIn, delivered, windowSize, mostAtHand, sound, admitted, takes, placeOf, leaves, gave, took, fedBy, filledWith, Behind, Moves, Fills, TakesIn, Admitted, Windowed}
+use Rattle.chunks.specs.Feed.{fullHand, atHand, handIn, delivered, windowSize, mostAtHand, sound, admitted, takes, placeOf, leaves, gave, took, fedBy, filledWith, Behind, Moves, Fills, TakesIn, Admitted, Windowed}
 use Rattle.chunks.specs.Hand.{toNext, Held}
 use Rattle.chunks.specs.Reader.{Gives, handed, more, never, reading, Passable}
 use Rattle.chunks.specs.Shift.{unknown}
@@ -176,11 +176,11 @@ pub takes-few : (h n : ℕ) → takes h n ≤ n
 takes-few h n = omega arith
 
 pub takes-room : (h n : ℕ) → h + takes h n ≤ cond (ltb h mostAtHand) mostAtHand h
-takes-room h n = go (ltb h longestToken) refl (ltb h mostAtHand) refl
+takes-room h n = go (ltb h fullHand) refl (ltb h mostAtHand) refl
   where
-    go : (t : Bool) → ltb h longestToken ≡ t → (u : Bool) → ltb h mostAtHand ≡ u → h + min n (cond t (longestToken - h) (mostAtHand - h)) ≤ cond u mostAtHand h
-    go true e true f = let a = ltb-true h longestToken e in omega arith
-    go true e false f = let a = ltb-true h longestToken e in let b = ltb-false h mostAtHand f in omega arith
+    go : (t : Bool) → ltb h fullHand ≡ t → (u : Bool) → ltb h mostAtHand ≡ u → h + min n (cond t (fullHand - h) (mostAtHand - h)) ≤ cond u mostAtHand h
+    go true e true f = let a = ltb-true h fullHand e in omega arith
+    go true e false f = let a = ltb-true h fullHand e in let b = ltb-false h mostAtHand f in omega arith
     go false e true f = let a = ltb-true h mostAtHand f in omega arith
     go false e false f = let b = ltb-false h mostAtHand f in omega arith
 

@@ -14,7 +14,7 @@ use Rattle.lexer.specs.declared.refusal.Fault.{Fault}
 use Rattle.lexer.specs.declared.cursor.Cursor.{Cursor}
 use Rattle.lexer.specs.declared.token.Token.{Token}
 use Rattle.lexer.proofs.Calls.{passes}
-use Rattle.chunks.specs.Feed.{Leaves, leaves, atHand, handIn, delivered, windowSize, mostAtHand, sound, admitted, takes, placeOf, place, endOfHand, filledWith, gave, took, offered, byPhase, feeding, begun, endedPhase, inPhase, finishing}
+use Rattle.chunks.specs.Feed.{fullHand, Leaves, leaves, atHand, handIn, delivered, windowSize, mostAtHand, sound, admitted, takes, placeOf, place, endOfHand, filledWith, gave, took, offered, byPhase, feeding, begun, endedPhase, inPhase, finishing}
 use Rattle.chunks.specs.Reader.{Gives, handed, more, never, reading, Passable}
 use Rattle.chunks.specs.Shift.{unknown}
 use Rattle.chunks.specs.Session.{left, told as heard, call, session}
@@ -331,10 +331,10 @@ joined-left [] xs = refl
 joined-left (a ∷ y) xs = refl
 
 takes-some : (h n : ℕ) → h < mostAtHand → 0 < n → 0 < takes h n
-takes-some h n f g = go (ltb h longestToken) refl
+takes-some h n f g = go (ltb h fullHand) refl
   where
-    go : (t : Bool) → ltb h longestToken ≡ t → 0 < min n (cond t (longestToken - h) (mostAtHand - h))
-    go true e = let a = ltb-true h longestToken e in omega arith
+    go : (t : Bool) → ltb h fullHand ≡ t → 0 < min n (cond t (fullHand - h) (mostAtHand - h))
+    go true e = let a = ltb-true h fullHand e in omega arith
     go false e = omega arith
 
 -- what is left is less

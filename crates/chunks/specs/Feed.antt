@@ -65,9 +65,12 @@ finishing r = inPhase r (endedPhase (r .phase))
 abbrev pub admitted : Bool → Reader → ℕ → Bool
 admitted ended r n = sound r && leb (delivered r + n) (cond ended (delivered r) longest)
 
--- so many bytes are taken: until 1,024 are at hand and, where as many were there already, until 1,027
+-- so many bytes are taken: until 1,022 are at hand, with which what comes next can be read at once; where as many were there already, until 1,027
+abbrev pub fullHand : ℕ
+fullHand = longestToken - 2
+
 abbrev pub takes : ℕ → ℕ → ℕ
-takes h n = min n (cond (ltb h longestToken) (longestToken - h) (mostAtHand - h))
+takes h n = min n (cond (ltb h fullHand) (fullHand - h) (mostAtHand - h))
 
 -- the bytes at hand, which begin at `from`, are moved to the window's front where half of it is free
 abbrev pub placeOf : ℕ → ℕ

@@ -12,6 +12,7 @@ use Rattle.lexer.specs.declared.token.Token.{Token}
 use Rattle.chunks.specs.Answers.{handOf}
 use Rattle.chunks.specs.Reader.{Gives, handed, more, never, movedBy, Sums, Passable}
 use Rattle.chunks.specs.Shift.{unknown, shiftFault, shiftToken}
+use Rattle.chunks.specs.Whole.{longestToken}
 use Rattle.chunks.specs.declared.hand.Next.{Next}
 use Rattle.chunks.specs.declared.layout.Mode.{Mode}
 use Rattle.chunks.specs.declared.pass.Place.{Place}
@@ -49,6 +50,11 @@ pub record Held (s : List ℕ) (c : Cursor) : Type 0 where
   pub some : 0 < length s
   pub few : length s ≤ longest
   pub able : Passable (length s - 1) c
+
+-- the same, with fewer bytes than a token may have
+pub record Brief (s : List ℕ) (c : Cursor) : Type 0 where
+  pub held : Held s c
+  pub brief : length s < longestToken
 
 -- a token starts there: at the place's cursor, which is further on than `from`
 pub record Starting (s : List ℕ) (p : Place) (from : ℕ) : Type 0 where

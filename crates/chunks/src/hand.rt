@@ -5,22 +5,29 @@ use crate::pass::Place;
 use crate::pass::Why;
 use crate::pass::pass_layout;
 use crate::verdict::Judgement;
+use crate::verdict::LONGEST_TOKEN;
+use crate::verdict::came_to;
 use crate::verdict::judge;
+use crate::verdict::settled_by;
+use lexer::Answer;
 use lexer::Cursor;
 use lexer::Fault;
 use lexer::Refusal;
 use lexer::Token;
+use lexer::next_token;
 ghost use mathlib.Core.Path.{_≡_};
-ghost use Prim.Native.Nat.{_+_, _-_, _≤_};
-ghost use mathlib.Core.Bool.{cond};
-ghost use lib.ListN.{drop};
-ghost use Rattle.lexer.specs.Cursor.{longest};
+ghost use Prim.Native.Nat.{_+_, _-_, _<_, _≤_};
+ghost use mathlib.Core.Bool.{false, cond};
+ghost use lib.ListN.{length, drop};
+ghost use Rattle.lexer.specs.Cursor.{longest, startCursor};
+ghost use Rattle.lexer.specs.Token.{nextToken};
 ghost use Rattle.chunks.specs.Answers.{handOf};
-ghost use Rattle.chunks.specs.Hand.{toNext, nextBy, TokenFits, Fits, Held, Starting};
+ghost use Rattle.chunks.specs.Hand.{toNext, nextBy, TokenFits, Fits, Held, Brief, Starting};
 ghost use Rattle.chunks.specs.Reader.{movedBy, judged as judgedBy, reading};
 ghost use Rattle.chunks.specs.Shift.{shiftFault, shiftToken};
 ghost use Rattle.chunks.specs.Verdict.{verdict};
 ghost use Rattle.chunks.specs.declared.hand.Next.the-variants.{Token as Handed, More, Refused};
+ghost use Rattle.chunks.specs.declared.layout.Mode.the-variants.{Blank};
 
 // The next token with the cursor behind it; where the reading stands, if more must be known; its refusal.
 pub enum Next {
@@ -112,8 +119,8 @@ fn waits(fault: Fault, place: Place, ended: bool) -> Next
     more(place)
 }
 
-// The last of `shown` is the unknown byte; the others are at hand, from the cursor on.
-pub(crate) fn read_hand(shown: &[u8], mode: Mode, cursor: Cursor, layout: bool, ended: bool) -> Next
+// Layout is passed over, then the token is judged. The last of `shown` is the unknown byte; the others are at hand, from the cursor on.
+fn read_apart(shown: &[u8], mode: Mode, cursor: Cursor, layout: bool, ended: bool) -> Next
     requires { ⌜ Held (now shown) cursor ⌝ }
     ensures { λ r. ⌜ r ≡ toNext (reading ended mode cursor layout (handOf (now (shown .entry)))) ⌝ }
 {
@@ -124,5 +131,60 @@ pub(crate) fn read_hand(shown: &[u8], mode: Mode, cursor: Cursor, layout: bool, 
         Why::Starts => start_token(shown, place, cursor.offset, ended),
         Why::Waits(fault) => waits(fault, place, ended),
         Why::Stops(fault) => Next::Refused(fault),
+    }
+}
+
+// Layout and token at once, by the token call from the start of the bytes at hand.
+fn call_at_start(shown: &[u8], ended: bool) -> Answer
+    requires { ⌜ 0 < length (now shown) ⌝ }
+    ensures { λ r. ⌜ r ≡ nextToken (cond ended (handOf (now (shown .entry))) (now (shown .entry))) startCursor ⌝ }
+{
+    let start = Cursor {
+        offset: 0,
+        line: 0,
+        column: 0,
+    };
+    if ended {
+        let n = shown.len() - 1;
+        return next_token(&shown[0..n], start);
+    }
+    next_token(shown, start)
+}
+
+// Where the reading does not come to the unknown byte that is all there is to do; else layout and token are read apart.
+fn read_at_once(shown: &[u8], cursor: Cursor, ended: bool) -> Next
+    requires { ⌜ Brief (now shown) cursor ⌝ }
+    ensures { λ r. ⌜ r ≡ toNext (reading ended Blank cursor false (handOf (now (shown .entry)))) ⌝ }
+{
+    let answer = call_at_start(shown, ended);
+    if came_to(answer, shown.len() - 1) {
+        return read_apart(shown, Mode::Blank, cursor, false, ended);
+    }
+    judged(
+        settled_by(answer),
+        Place {
+            mode: Mode::Blank,
+            cursor,
+            layout: false,
+            why: Why::Starts,
+        },
+    )
+}
+
+// Behind a token, with few bytes at hand, what comes next is read at once.
+pub(crate) fn read_hand(shown: &[u8], mode: Mode, cursor: Cursor, layout: bool, ended: bool) -> Next
+    requires { ⌜ Held (now shown) cursor ⌝ }
+    ensures { λ r. ⌜ r ≡ toNext (reading ended mode cursor layout (handOf (now (shown .entry)))) ⌝ }
+{
+    if layout {
+        return read_apart(shown, mode, cursor, layout, ended);
+    }
+    if LONGEST_TOKEN <= shown.len() {
+        return read_apart(shown, mode, cursor, layout, ended);
+    }
+    match mode {
+        Mode::Blank => read_at_once(shown, cursor, ended),
+        Mode::Line => read_apart(shown, mode, cursor, layout, ended),
+        Mode::Inside(_) => read_apart(shown, mode, cursor, layout, ended),
     }
 }

@@ -35,7 +35,7 @@ const LIMIT: usize = 1025;
 pub(crate) const MOST_AT_HAND: usize = 1027;
 
 // Whether a reading came to the unknown byte, which is at `n`.
-fn came_to(answer: Answer, n: usize) -> bool
+pub(crate) fn came_to(answer: Answer, n: usize) -> bool
     ensures { λ r. ⌜ r ≡ answerCame n answer ⌝ }
 {
     match answer {
@@ -165,7 +165,7 @@ pub enum Judgement {
     Waiting,
 }
 
-fn settled_by(answer: Answer) -> Judgement
+pub(crate) fn settled_by(answer: Answer) -> Judgement
     ensures { λ r. ⌜ r ≡ ofAnswer answer ⌝ }
 {
     match answer {

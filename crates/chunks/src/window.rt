@@ -1,5 +1,4 @@
 // The window: the bytes at hand are moved to its front, and those of a chunk are put behind them.
-use crate::verdict::LONGEST_TOKEN;
 use crate::verdict::MOST_AT_HAND;
 use crate::verdict::lesser;
 ghost use mathlib.Core.Path.{_≡_};
@@ -18,12 +17,15 @@ const UNKNOWN: u8 = 0;
 // Behind it half of the window is free for the bytes at hand.
 const HALF: usize = 1028;
 
+// With so many bytes at hand and the unknown one, no token of them can be too long.
+const FULL_HAND: usize = 1022;
+
 // How many of `n` bytes are taken to the `hand` at hand.
 pub(crate) fn bytes_taken(hand: usize, n: usize) -> usize
     ensures { λ r. ⌜ r ≡ takes hand n ⌝ }
 {
-    if hand < LONGEST_TOKEN {
-        return lesser(n, LONGEST_TOKEN - hand);
+    if hand < FULL_HAND {
+        return lesser(n, FULL_HAND - hand);
     }
     if hand < MOST_AT_HAND {
         return lesser(n, MOST_AT_HAND - hand);
