@@ -1,8 +1,8 @@
 /* The Prolog reader, for C: bytes in; tokens, or a clause's tree, line or image, out; and an image's nodes.
  *
- * Each function of the archive is proved, for every argument, to answer as the call of the library that its name says (crates/ffi_token, ffi_clause, ffi_pack,
- * ffi_forms and ffi); what that answer is stands in docs/CLAIMS.md. It allocates nothing, keeps nothing between two calls and writes only what it is lent,
- * so several threads may call at once.
+ * Each function of the archive is proved, for every argument, to answer as the call of the library that its name says (crates/ffi_token, ffi_clause,
+ * ffi_chunks, ffi_pack, ffi_forms and ffi); what that answer is stands in docs/CLAIMS.md. It allocates nothing, keeps nothing between two calls and writes
+ * only what it is lent, so several threads may call at once.
  *
  * A text is of ASCII. Its lines end with byte 10, or with the bytes 13 and 10, as a file was saved; lines are counted by byte 10, and byte 13 is layout.
  *
@@ -43,6 +43,10 @@ extern "C" {
 #define THRINVAGE_MOST_TOKENS 1024
 #define THRINVAGE_MOST_NODES 1023
 
+/* Of a text that comes in chunks: the longest token, and the bytes of a reader's window. */
+#define THRINVAGE_LONGEST_TOKEN 1024
+#define THRINVAGE_WINDOW 2057
+
 /* Room that always serves: numbers for a clause's tree, bytes for its line and for an image of either form, and numbers for an image's nodes. A scratch
  * of THRINVAGE_LONGEST_TEXT bytes always serves too. */
 #define THRINVAGE_TREE_NUMBERS 2048
@@ -62,13 +66,14 @@ enum thrinvage_refusal {
     THRINVAGE_FOREIGN_BYTE = 5,     /* a byte outside ISO's characters, in comments too; at it */
     THRINVAGE_SET_ASIDE = 6,        /* `_` right after the leading digits, or 0'\ and a newline; at the token */
     THRINVAGE_OUT_OF_LIMIT = 7,     /* a number or an escape out of its limit (below), in a token otherwise whole; at the token */
-    THRINVAGE_NOT_VALID = 8,        /* the text is longer than 65,535 bytes, or the cursor is not valid (below); at 0 */
+    THRINVAGE_NOT_VALID = 8,        /* the text is longer than 65,535 bytes, or the cursor, a chunk or a reader is not valid (below); at 0 */
     THRINVAGE_NO_ROOM = 9,          /* too short: the scratch, at the token; the tree or the line, at the clause's first; an image or its nodes, at 0 */
     THRINVAGE_TOO_MANY_TOKENS = 10, /* 1,024 tokens, none an end mark; at the first */
     THRINVAGE_NO_READING = 11,      /* no reading; at the first token that cannot stand: no clause begins with the tokens up to and including it */
     THRINVAGE_NO_TEXT = 12,         /* the token is no name, variable or string; at it */
     THRINVAGE_TOO_LONG = 13,        /* an image's body would pass 65,535 bytes; at 0 */
     THRINVAGE_NO_PACK = 14,         /* the bytes are no image, or the nodes are none that an image can have (below); at 0 */
+    THRINVAGE_TOKEN_TOO_LONG = 15,  /* of thrinvage_feed alone: a token is longer than 1,024 bytes; at it */
     THRINVAGE_UNKNOWN_VERSION = 18  /* an image's first byte is no version that this function knows; at 0 */
 };
 
@@ -179,6 +184,58 @@ uint32_t thrinvage_read_clause(const uint8_t *text, size_t length, size_t offset
  * other functions take 19 KB at most, whatever they read (docs/FOOTPRINT.md). */
 uint32_t thrinvage_list_clause(const uint8_t *text, size_t length, size_t offset, size_t line, size_t column, uint8_t *out, size_t room,
                                struct thrinvage_clause *clause);
+
+/* ---- A text that comes in chunks
+ *
+ * A reader takes a text in pieces, as a modem delivers it, and gives each token as soon as it is certain. It is the struct below and a window of
+ * THRINVAGE_WINDOW bytes, 96 + 2,057 bytes that the caller keeps; nothing else of the text need be kept.
+ *
+ * Start it once. Then feed it each chunk: a call takes bytes of the chunk, says in `taken` how many, and gives one token at most. Go on with the rest of
+ * the chunk, be it empty, until the answer is THRINVAGE_MORE and nothing is left. When the text has ended, say so by thrinvage_finish, and feed empty chunks
+ * until one is refused: a text always ends with a refusal, and one that was read whole with 1 at its length. An empty chunk before that is no end and does
+ * no harm. examples/c/stream.c reads standard input so.
+ *
+ * However a text is cut into chunks, the tokens and the first refusal are those that thrinvage_next_token gives for the whole text, and offsets, lines and
+ * columns count from the start of the whole. But a token that is longer than 1,024 bytes is refused by 15 at its start, unless another refusal shows within
+ * these bytes; comments are no tokens and may be longer. No token waits for more than it needs: it is given, or refused, when the byte that makes it
+ * certain has been taken, `(` at once and `house4` with the byte behind it; 15 with the token's 1,025th byte, of some numbers with one of the next two.
+ *
+ * A chunk that brings the sum of all to more than 65,535 bytes is refused as a whole, by 8 at 0, and so is any byte behind thrinvage_finish. After a
+ * refusal each call repeats it.
+ *
+ * A reader may be kept between two calls for as long as it takes, copied, or stored and taken up by another program: the struct and its window together.
+ * The window is the reader's own, and must have the same bytes from call to call; before the first, any. A struct that no function wrote is refused by 8 at
+ * 0 if its numbers cannot be a reader's; if they can, it is read as one that has them, and nothing is touched but what was lent. */
+
+/* What thrinvage_feed returns where it needs more of the text: the number of no refusal. */
+#define THRINVAGE_MORE 256
+
+/* A reader. At hand are the bytes that were taken and not yet read; so offset + to - from bytes were taken in all. */
+struct thrinvage_reader {
+    uint64_t mode;       /* 0 in no comment, 1 in a `%` comment, 2 in a bracketed comment */
+    uint64_t slash;      /* in mode 2 the offset of the comment's slash, else 0 */
+    uint64_t offset;     /* of the first byte at hand */
+    uint64_t line;       /* newlines (byte 10) before it */
+    uint64_t column;     /* characters since the last of them */
+    uint64_t layout;     /* 1 if layout or a comment was passed since the last token, else 0 */
+    uint64_t from;       /* the bytes at hand stand in the window from here .. */
+    uint64_t to;         /* .. to before this */
+    uint64_t phase;      /* 0 the text goes on, 1 it has ended, 2 it was refused */
+    uint64_t refusal;    /* in phase 2 the refusal's number, else 0 */
+    uint64_t refused_at; /* in phase 2 its offset, else 0 */
+    uint64_t taken;      /* bytes of its chunk that the last thrinvage_feed took; 0 behind the other two functions */
+};
+
+/* A reader that has read nothing. */
+void thrinvage_start(struct thrinvage_reader *reader);
+
+/* The text has ended. Said twice, or after a refusal, it changes nothing but `taken`. */
+void thrinvage_finish(struct thrinvage_reader *reader);
+
+/* Takes bytes of the chunk and returns 0 with a token, as thrinvage_next_token does; or THRINVAGE_MORE, and leaves *token as it was; or the number of a
+ * refusal, with its offset in the token's `refused_at`, and leaves the token's other fields. *reader is written in each case, and the window where bytes
+ * are read. */
+uint32_t thrinvage_feed(struct thrinvage_reader *reader, uint8_t *window, const uint8_t *chunk, size_t length, struct thrinvage_token *token);
 
 /* ---- A clause in a message
  *

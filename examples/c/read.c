@@ -12,6 +12,7 @@
 #include <string.h>
 
 #include "thrinvage.h"
+#include "tokens.h"
 
 /* A text, and the file's name. */
 struct source {
@@ -20,36 +21,9 @@ struct source {
     size_t length;
 };
 
-/* In the order of enum thrinvage_kind. */
-static const char *const KINDS[] = {
-    "name", "variable", "string", "number", "open", "open_ct", "close", "open_list", "close_list", "open_curly", "close_curly", "bar",
-    "double_bar", "comma", "end",
-};
-
-static void print_cursor(uint64_t offset, uint64_t line, uint64_t column) {
-    printf(" %" PRIu64 " %" PRIu64 " %" PRIu64, offset, line, column);
-}
-
 static void print_refused(uint32_t number, uint64_t at, uint64_t offset, uint64_t line, uint64_t column) {
     printf("refused %" PRIu32 " %" PRIu64, number, at);
     print_cursor(offset, line, column);
-    putchar('\n');
-}
-
-/* A float's value has the bits of the double: memcpy them to one to compute with it. */
-static void print_value(const struct thrinvage_token *t) {
-    if (t->value_kind == THRINVAGE_INTEGER)
-        printf(" %" PRIu64, t->value);
-    else if (t->value_kind == THRINVAGE_FLOAT)
-        printf(" f%016" PRIx64, t->value);
-    else
-        printf(" -");
-}
-
-static void print_token(const struct thrinvage_token *t) {
-    printf("token %s %" PRIu64, KINDS[t->kind], t->start);
-    print_cursor(t->offset, t->line, t->column);
-    print_value(t);
     putchar('\n');
 }
 

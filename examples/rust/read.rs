@@ -9,52 +9,18 @@
 //! text's length, where all of it was read. `whole` says `whole`, or what is wrong and where: as compilers do, so that an editor can go there, with the
 //! line and a caret below the byte.
 mod thrinvage;
+mod tokens;
 
 use std::env::args;
 use std::fs::File;
 use std::io::{Error, Read, Result, Write, stdin, stdout};
 use std::process::ExitCode;
-use thrinvage::{Cursor, Kind, LINE_BYTES, LONGEST_TEXT, Part, Refusal, TREE_NUMBERS, Token, Value};
+use thrinvage::{Cursor, LINE_BYTES, LONGEST_TEXT, Part, Refusal, TREE_NUMBERS};
 use thrinvage::{
     END_OF_TEXT, NO_TEXT, NOT_VALID, layout_end, list_clause, next_number_token, next_token, next_token_text,
-    only_layout_behind, read_clause, tokens,
+    only_layout_behind, read_clause,
 };
-
-fn kind_name(kind: Kind) -> &'static str {
-    match kind {
-        Kind::Name => "name",
-        Kind::Variable => "variable",
-        Kind::String => "string",
-        Kind::Number => "number",
-        Kind::Open => "open",
-        Kind::OpenCT => "open_ct",
-        Kind::Close => "close",
-        Kind::OpenList => "open_list",
-        Kind::CloseList => "close_list",
-        Kind::OpenCurly => "open_curly",
-        Kind::CloseCurly => "close_curly",
-        Kind::HeadTailSeparator => "bar",
-        Kind::DoubleBar => "double_bar",
-        Kind::Comma => "comma",
-        Kind::End => "end",
-    }
-}
-
-fn shown_cursor(at: Cursor) -> String {
-    format!("{} {} {}", at.offset, at.line, at.column)
-}
-
-fn shown_value(value: Value) -> String {
-    match value {
-        Value::Nothing => "-".to_string(),
-        Value::Integer(n) => n.to_string(),
-        Value::Float(x) => format!("f{:016x}", x.to_bits()),
-    }
-}
-
-fn print_token(out: &mut impl Write, token: Token) -> Result<()> {
-    writeln!(out, "token {} {} {} {}", kind_name(token.kind), token.start, shown_cursor(token.next), shown_value(token.value))
-}
+use tokens::{print_token, shown_cursor};
 
 /// The refusal, and the cursor where it was met.
 fn print_refused(out: &mut impl Write, refusal: Refusal, at: Cursor) -> Result<()> {
@@ -63,7 +29,7 @@ fn print_refused(out: &mut impl Write, refusal: Refusal, at: Cursor) -> Result<(
 
 fn print_tokens(out: &mut impl Write, text: &[u8]) -> Result<()> {
     let mut at = Cursor::default();
-    for read in tokens(text) {
+    for read in thrinvage::tokens(text) {
         match read {
             Ok(token) => {
                 print_token(out, token)?;

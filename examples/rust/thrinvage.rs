@@ -147,10 +147,12 @@ pub const TREE_NUMBERS: usize = 2048;
 pub const LINE_BYTES: usize = 70650;
 pub const IMAGE_BYTES: usize = 65538;
 pub const NODE_NUMBERS: usize = 4092;
+/// The longest token of a text that comes in chunks, in bytes.
+pub const LONGEST_TOKEN: usize = 1024;
 
 /// The refusal where the text has ended.
 pub const END_OF_TEXT: u32 = 1;
-/// The refusal of a text that is too long, and of a cursor that is not valid.
+/// The refusal of a text that is too long, of a cursor that is not valid, and of a chunk that may not come.
 pub const NOT_VALID: u32 = 8;
 /// The refusal where the slice to be written has too little room.
 pub const NO_ROOM: u32 = 9;
@@ -160,6 +162,8 @@ pub const NO_TEXT: u32 = 12;
 pub const TOO_LONG: u32 = 13;
 /// The refusal where the bytes are no image, or the nodes are none that an image can have.
 pub const NO_PACK: u32 = 14;
+/// The refusal of a reader where a token is longer than `LONGEST_TOKEN`.
+pub const TOKEN_TOO_LONG: u32 = 15;
 /// The refusal where an image's first byte is no version that the call knows.
 pub const UNKNOWN_VERSION: u32 = 18;
 
@@ -203,6 +207,23 @@ struct RawUnpacked {
     count: u64,
 }
 
+#[repr(C)]
+#[derive(Clone, Copy, Default)]
+struct RawReader {
+    mode: u64,
+    slash: u64,
+    offset: u64,
+    line: u64,
+    column: u64,
+    layout: u64,
+    from: u64,
+    to: u64,
+    phase: u64,
+    refusal: u64,
+    refused_at: u64,
+    taken: u64,
+}
+
 /// The C interface of both moves.
 type RawMove = unsafe extern "C" fn(image: *const u8, length: usize, out: *mut u8, room: usize, moved: *mut u64) -> u32;
 
@@ -218,6 +239,9 @@ unsafe extern "C" {
     fn thrinvage_list_clause(
         text: *const u8, length: usize, offset: usize, line: usize, column: usize, out: *mut u8, room: usize, clause: *mut RawClause,
     ) -> u32;
+    fn thrinvage_start(reader: *mut RawReader);
+    fn thrinvage_finish(reader: *mut RawReader);
+    fn thrinvage_feed(reader: *mut RawReader, window: *mut u8, chunk: *const u8, length: usize, token: *mut RawToken) -> u32;
     fn thrinvage_pack_clause(
         text: *const u8, length: usize, offset: usize, line: usize, column: usize, out: *mut u8, room: usize, clause: *mut RawClause,
     ) -> u32;
@@ -501,5 +525,60 @@ impl Iterator for Tokens<'_> {
         let read = self.scanner.advance();
         self.ended = read.err();
         Some(read.map(|()| self.scanner.raw.token()))
+    }
+}
+
+const WINDOW: usize = 2057;
+const MORE: u32 = 256;
+
+/// What a reader gives when it is fed.
+#[derive(Clone, Copy, Debug, PartialEq)]
+pub enum Given {
+    Token(Token),
+    /// Nothing yet: more of the text must come, or its end.
+    More,
+    Refused(Refusal),
+}
+
+/// Reads a text that comes in chunks and gives each token as soon as it is certain. Offsets, lines and columns count from the start of the whole text. A
+/// reader has some 2 KB and may be cloned between two calls: each goes on from there.
+#[derive(Clone)]
+pub struct Reader {
+    raw: RawReader,
+    window: [u8; WINDOW],
+}
+
+impl Reader {
+    pub fn new() -> Reader {
+        let mut reader = Reader { raw: RawReader::default(), window: [0; WINDOW] };
+        // SAFETY: the pointer is of a field.
+        unsafe { thrinvage_start(&mut reader.raw) };
+        reader
+    }
+
+    /// How many bytes of the chunk were taken, and what they gave. Go on with the rest of it until that is `More` and nothing is left; behind `finish`,
+    /// with empty chunks until one is refused. After a refusal each call repeats it.
+    pub fn feed(&mut self, chunk: &[u8]) -> (usize, Given) {
+        let mut token = RawToken::default();
+        let window = self.window.as_mut_ptr();
+        // SAFETY: the pointers are of a slice, with its length, of two fields and of a local.
+        let number = unsafe { thrinvage_feed(&mut self.raw, window, chunk.as_ptr(), chunk.len(), &mut token) };
+        let given = match number {
+            MORE => Given::More,
+            _ => unless_refused(number, token.refused_at, || token.token()).map_or_else(Given::Refused, Given::Token),
+        };
+        (self.raw.taken as usize, given)
+    }
+
+    /// The text has ended.
+    pub fn finish(&mut self) {
+        // SAFETY: the pointer is of a field.
+        unsafe { thrinvage_finish(&mut self.raw) };
+    }
+}
+
+impl Default for Reader {
+    fn default() -> Reader {
+        Reader::new()
     }
 }
