@@ -17,6 +17,7 @@ use Rattle.chunks.specs.declared.hand.Next.{Next}
 use Rattle.chunks.specs.declared.layout.Mode.the-variants.{Blank}
 use Rattle.chunks.specs.declared.delivery.Reader.{Reader}
 use Rattle.chunks.specs.declared.delivery.Phase.{Phase}
+use Rattle.chunks.specs.declared.delivery.Stage.{Stage}
 use Rattle.chunks.specs.declared.delivery.Given.{Given}
 use Rattle.chunks.specs.declared.delivery.Fed.{Fed}
 
@@ -65,9 +66,9 @@ finishing r = inPhase r (endedPhase (r .phase))
 abbrev pub admitted : Bool → Reader → ℕ → Bool
 admitted ended r n = sound r && leb (delivered r + n) (cond ended (delivered r) longest)
 
--- so many bytes are taken: until 1,022 are at hand, with which what comes next can be read at once; where as many were there already, until 1,027
+-- so many bytes are taken: until 256 are at hand, which is enough for nearly every token; where as many were there already, until 1,027
 abbrev pub fullHand : ℕ
-fullHand = longestToken - 2
+fullHand = 256
 
 abbrev pub takes : ℕ → ℕ → ℕ
 takes h n = min n (cond (ltb h fullHand) (fullHand - h) (mostAtHand - h))
@@ -117,6 +118,10 @@ abbrev pub feeding : Reader → List ℕ → List ℕ → Leaves
 feeding r w chunk = byPhase (r .phase) r w chunk
 
 -- ---- what the code tells, and what it asks
+unfoldable pub stageOf : Phase → Stage
+stageOf Phase.Open = Stage.Reads false
+stageOf Phase.Ended = Stage.Reads true
+stageOf (Phase.Refused w) = Stage.Refused w
 
 -- without the bytes that are left: `sum` bytes were delivered, and the cursor tells how many of them are read
 unfoldable pub fedBy : Reader → ℕ → ℕ → ℕ → Next → Fed

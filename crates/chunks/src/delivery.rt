@@ -15,7 +15,7 @@ ghost use mathlib.Core.Path.{_≡_};
 ghost use Prim.Native.Nat.{_-_};
 ghost use lib.ListN.{length, take, drop};
 ghost use Rattle.lexer.specs.Cursor.{part};
-ghost use Rattle.chunks.specs.Feed.{sound, begun, finishing, inPhase, atHand, admitted, takes, leaves, refusing, gave, fedBy, took, offered, feeding, Admitted, Behind, Windowed};
+ghost use Rattle.chunks.specs.Feed.{sound, begun, finishing, inPhase, atHand, admitted, takes, leaves, refusing, gave, fedBy, took, offered, stageOf, feeding, Admitted, Behind, Windowed};
 ghost use Rattle.chunks.specs.Reader.{reading};
 
 // 01: a text has at most so many bytes.
@@ -241,16 +241,31 @@ fn offer(reader: Reader, window: &mut [u8; WINDOW], chunk: &[u8], ended: bool) -
     )
 }
 
+// Whether bytes can be read, behind the end or not.
+enum Stage {
+    Reads(bool),
+    Refused(Fault),
+}
+
+fn stage_of(phase: Phase) -> Stage
+    ensures { λ r. ⌜ r ≡ stageOf phase ⌝ }
+{
+    match phase {
+        Phase::Open => Stage::Reads(false),
+        Phase::Ended => Stage::Reads(true),
+        Phase::Refused(fault) => Stage::Refused(fault),
+    }
+}
+
 // Takes bytes of a chunk, says how many, and hands out at most one token. The caller goes on with the rest of the chunk until the answer is `More` and
 // nothing is left of it; behind `finish`, with empty chunks until one is refused.
 pub fn feed(reader: Reader, window: &mut [u8; WINDOW], chunk: &[u8]) -> Fed
     ensures { λ r. ⌜ leaves r (now (window .exit)) ≡ feeding reader (now (window .entry)) (now (chunk .entry)) ⌝ }
 {
     let phase = reader.phase;
-    match phase {
-        Phase::Open => offer(reader, window, chunk, false),
-        Phase::Ended => offer(reader, window, chunk, true),
-        Phase::Refused(fault) => Fed {
+    match stage_of(phase) {
+        Stage::Reads(ended) => offer(reader, window, chunk, ended),
+        Stage::Refused(fault) => Fed {
             reader,
             taken: 0,
             given: Given::Refused(fault),
