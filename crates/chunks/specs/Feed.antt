@@ -66,9 +66,9 @@ finishing r = inPhase r (endedPhase (r .phase))
 abbrev pub admitted : Bool → Reader → ℕ → Bool
 admitted ended r n = sound r && leb (delivered r + n) (cond ended (delivered r) longest)
 
--- so many bytes are taken: until 256 are at hand, which is enough for nearly every token; where as many were there already, until 1,027
+-- so many bytes are taken: until 1,022 are at hand, with which what comes next can be read at once; where as many were there already, until 1,027
 abbrev pub fullHand : ℕ
-fullHand = 256
+fullHand = longestToken - 2
 
 abbrev pub takes : ℕ → ℕ → ℕ
 takes h n = min n (cond (ltb h fullHand) (fullHand - h) (mostAtHand - h))

@@ -17,8 +17,8 @@ const UNKNOWN: u8 = 0;
 // Behind it half of the window is free for the bytes at hand.
 const HALF: usize = 1028;
 
-// Enough for nearly every token. With more at hand more would be moved to the front in vain.
-const FULL_HAND: usize = 256;
+// With so many bytes at hand and the unknown one, no token of them can be too long.
+const FULL_HAND: usize = 1022;
 
 // How many of `n` bytes are taken to the `hand` at hand.
 pub(crate) fn bytes_taken(hand: usize, n: usize) -> usize

@@ -10,12 +10,12 @@ use Rattle.chunks.proofs.window.bytes_taken.Statement.{statement}
 use Rattle.chunks.proofs.window.bytes_taken.Tie as tie
 
 module _ (hand n : ℕ) where
-  short : (r : ℕ) → hand < 256 → r ≡ min n (256 - hand) → r ≡ takes hand n
-  short r h e = cc (lt-ltb hand 256 h)
+  short : (r : ℕ) → hand < 1022 → r ≡ min n (1022 - hand) → r ≡ takes hand n
+  short r h e = cc (lt-ltb hand 1022 h)
 
-  module _ (h : 256 ≤ hand) where
+  module _ (h : 1022 ≤ hand) where
     long : (r : ℕ) → r ≡ min n (1027 - hand) → r ≡ takes hand n
-    long r e = cc (le-ltb hand 256 h)
+    long r e = cc (le-ltb hand 1022 h)
 
     full : 1027 ≤ hand → 0 ≡ takes hand n
     full k = let e : 1027 - hand ≡ 0 = omega arith in long 0 (sym (ap (min n) e ∙ min-zero n))
