@@ -10,7 +10,7 @@ TREE_FILL = 43690
 # the longest body
 MOST_LENGTH = 70000
 # the letters whose body is no text
-NO_TEXT = "ukKmM"
+NO_TEXT = "sukKmM"
 STORED = ROOT / "crates" / "probe" / "stdin"
 
 

@@ -2,3 +2,4 @@ pub mod Room
 pub mod Nearer
 pub mod Window
 pub mod Given
+pub mod Steps

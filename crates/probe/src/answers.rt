@@ -78,7 +78,7 @@ fn put_token(out: &mut [u8], filled: usize, token: Token, next: Cursor) -> usize
     put_cursor(out, with_start, next)
 }
 
-fn token_line(out: &mut [u8], filled: usize, token: Token, next: Cursor) -> usize {
+pub(crate) fn token_line(out: &mut [u8], filled: usize, token: Token, next: Cursor) -> usize {
     let named = put_bytes(out, filled, b"token");
     let with_token = put_token(out, named, token, next);
     let value = token.value;

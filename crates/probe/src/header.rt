@@ -43,7 +43,7 @@ fn wide(b: u8) -> usize
     b as usize
 }
 
-fn with_digit(value: usize, b: u8) -> Grown {
+pub(crate) fn with_digit(value: usize, b: u8) -> Grown {
     if b < b'0' {
         return Grown::NoDigit;
     }
@@ -170,6 +170,7 @@ fn is_call(b: u8) -> bool {
         b'K' => true,
         b'm' => true,
         b'M' => true,
+        b's' => true,
         _ => false,
     }
 }

@@ -1,12 +1,14 @@
 // Answers the cases on standard input, one after another, in the format of docs/PROBE.md. A case that is
 // malformed gets the line `malformed` and is the last. What is proved: the program is safe and ends; no contract can say what is read or written.
 mod answers;
+mod deliveries;
 mod header;
 mod input;
 mod output;
 mod packs;
 
 use answers::read_case;
+use deliveries::deliver_case;
 use header::Header;
 use header::LARGEST_HEADER;
 use header::read_header;
@@ -63,6 +65,7 @@ fn answer(
         b'K' => nodes_case(out, filled, Version::Two, body, room),
         b'm' => move_case(out, filled, Version::Two, body, room),
         b'M' => move_case(out, filled, Version::One, body, room),
+        b's' => deliver_case(out, filled, body, room),
         _ => read_case(out, filled, call, body, cursor, room),
     }
 }

@@ -35,7 +35,7 @@ const NODE_BYTES: usize = NODE_NUMBERS * WORD;
 const NODE_FILL: u32 = 43690;
 
 // The calls that have no caller's cursor.
-fn refused_at_start(out: &mut [u8], filled: usize, fault: Fault) -> usize {
+pub(crate) fn refused_at_start(out: &mut [u8], filled: usize, fault: Fault) -> usize {
     let start = Cursor {
         offset: 0,
         line: 0,
