@@ -90,6 +90,12 @@ pub fn is_of_the_grammar(clause: &Clause) -> bool {
     thrinvage::read_clause(clause, Cursor::default(), &mut [0; TREE_NUMBERS]).is_ok()
 }
 
+/// Whether no token of the clause is longer than the reader of chunks takes.
+#[cfg(chunks)]
+pub fn has_short_tokens(clause: &Clause) -> bool {
+    thrinvage::tokens(clause).flatten().all(|token| token.next.offset - token.start <= 1_024)
+}
+
 /// Texts of at most `size` bytes and at least half as many. A clause that does not fit starts the next text, but is left out while
 /// the text before it is short.
 pub fn joined<'c>(clauses: impl Iterator<Item = &'c Clause>, size: usize) -> Vec<Vec<u8>> {

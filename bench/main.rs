@@ -1,4 +1,6 @@
 //! Times this reader beside the Rust, in one run and over the same texts. See docs/PERFORMANCE.md.
+#[cfg(chunks)]
+mod chunks;
 mod clock;
 #[cfg(packs)]
 mod coders;
@@ -23,6 +25,11 @@ mod model;
 mod protocol;
 #[path = "../examples/rust/thrinvage.rs"]
 mod thrinvage;
+// the wrapper's structs have other names for the same fields
+#[cfg(chunks)]
+#[allow(dead_code, clashing_extern_declarations)]
+#[path = "../tools/compare/feeding.rs"]
+mod feeding;
 
 use cut::Batch;
 use oracle::api::Machine;
@@ -87,6 +94,15 @@ fn beside_the_token_calls(batches: &[Batch], rounds: usize) -> Vec<Line> {
     timed.collect()
 }
 
+/// What has no token of more than 1,024 bytes.
+#[cfg(chunks)]
+fn timed_in_chunks(corpora: &[Corpus], machine: &mut Machine, rounds: usize) {
+    let short: Vec<Corpus> = corpora.iter().map(Corpus::of_short_tokens).collect();
+    println!();
+    short.iter().for_each(|corpus| println!("chunks, {}", corpus.said()));
+    chunks::run(&batches(&short, machine), rounds);
+}
+
 fn run(options: &Options) {
     let mut machine = Machine::default();
     let corpora = texts::corpora(&options.real, &options.demo, &mut machine);
@@ -100,6 +116,8 @@ fn run(options: &Options) {
     let of_clauses = batches(&clauses, &mut machine);
     let lines = beside_the_token_calls(&of_clauses, options.rounds);
     print("The clause call beside the token calls", TOKENS, ["token calls", "clause call"], &lines);
+    #[cfg(chunks)]
+    timed_in_chunks(&corpora, &mut machine, options.rounds);
     #[cfg(packs)]
     packs::run(&of_clauses, options.rounds);
     #[cfg(form_2)]

@@ -1,5 +1,9 @@
-//! What is timed: four ways to read a text from its start to its end.
+//! What is timed: ways to read a text from its start to its end.
+#[cfg(chunks)]
+use crate::chunks;
 use crate::cut::Batch;
+#[cfg(chunks)]
+use crate::feeding::Feeding;
 use crate::model::LONGEST_TEXT;
 use crate::thrinvage::{self, Cursor, NO_TEXT, Part, Refusal, Scanner, TREE_NUMBERS};
 use oracle::api::Machine;
@@ -9,6 +13,8 @@ pub enum Reader {
     TokenCall,
     TextCall { scratch: Vec<u8>, kept: Vec<u8> },
     ClauseCall { tree: Vec<u16> },
+    #[cfg(chunks)]
+    Chunks { size: usize, feeding: Feeding },
     Rust(Box<Machine>),
 }
 
@@ -23,6 +29,11 @@ impl Reader {
 
     pub fn clause_call() -> Reader {
         Reader::ClauseCall { tree: vec![0; TREE_NUMBERS] }
+    }
+
+    #[cfg(chunks)]
+    pub fn chunks(size: usize) -> Reader {
+        Reader::Chunks { size, feeding: Feeding::new(0) }
     }
 
     pub fn rust() -> Reader {
@@ -46,6 +57,8 @@ impl Reader {
             Reader::TokenCall => tokens(text),
             Reader::TextCall { scratch, kept } => texts(text, scratch, kept),
             Reader::ClauseCall { tree } => clauses(text, tree),
+            #[cfg(chunks)]
+            Reader::Chunks { size, feeding } => chunks::tokens(text, *size, feeding),
             Reader::Rust(machine) => machine.count_tokens(text),
         }
     }

@@ -17,16 +17,19 @@ pub struct Line {
     pub times: [Times; 2],
 }
 
-/// What a table calls its pieces, their parts, and the time of one.
+/// What a table calls a size, its pieces, their parts, and the time of one.
 pub struct Words {
+    size: &'static str,
     pieces: &'static str,
     parts: &'static str,
     a_part: &'static str,
 }
 
-pub const TOKENS: Words = Words { pieces: "texts", parts: "tokens", a_part: "ns/tok" };
+pub const TOKENS: Words = Words { size: "size", pieces: "texts", parts: "tokens", a_part: "ns/tok" };
+#[cfg(chunks)]
+pub const CHUNKS: Words = Words { size: "chunk", ..TOKENS };
 #[cfg(packs)]
-pub const NODES: Words = Words { pieces: "packs", parts: "nodes", a_part: "ns/node" };
+pub const NODES: Words = Words { size: "size", pieces: "packs", parts: "nodes", a_part: "ns/node" };
 
 impl Line {
     /// The ratios are the right one's time over the left one's: of the medians, and of the least.
@@ -47,12 +50,12 @@ impl Line {
 }
 
 pub fn print(title: &str, words: Words, sides: [&str; 2], lines: &[Line]) {
-    let Words { pieces, parts, a_part } = words;
+    let Words { size, pieces, parts, a_part } = words;
     let [left, right] = sides;
     println!("\n{title}\n");
     println!("{:<29} |{left:^24} |{right:^24} |", "");
     let columns = format!("{:>8}{:>8}{:>8}", "MB/s", a_part, "least");
-    println!("{:<9}{:>6}{pieces:>6}{parts:>8} |{columns} |{columns} |{:>6}{:>7}", "text", "size", "ratio", "least");
+    println!("{:<9}{size:>6}{pieces:>6}{parts:>8} |{columns} |{columns} |{:>6}{:>7}", "text", "ratio", "least");
     for line in lines {
         println!("{}", line.show());
     }

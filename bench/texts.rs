@@ -26,6 +26,14 @@ impl Corpus {
         Corpus { name: self.name, clauses, left_out }
     }
 
+    /// What the reader of chunks does not refuse by 15.
+    #[cfg(chunks)]
+    pub fn of_short_tokens(&self) -> Corpus {
+        let clauses: Vec<Clause> = self.clauses.iter().filter(|clause| cut::has_short_tokens(clause)).cloned().collect();
+        let left_out = format!("{} left out, with a token of more than 1,024 bytes", self.clauses.len() - clauses.len());
+        Corpus { name: self.name, clauses, left_out }
+    }
+
     pub fn said(&self) -> String {
         let bytes: usize = self.clauses.iter().map(Vec::len).sum();
         format!("{}: {} clauses, {bytes} bytes; {}", self.name, self.clauses.len(), self.left_out)

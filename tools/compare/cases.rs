@@ -22,10 +22,10 @@ impl Random {
     pub fn below(&mut self, n: usize) -> usize {
         (self.next() % n as u64) as usize
     }
-    fn chance(&mut self, percent: usize) -> bool {
+    pub fn chance(&mut self, percent: usize) -> bool {
         self.below(100) < percent
     }
-    fn pick<T: Copy>(&mut self, from: &[T]) -> T {
+    pub fn pick<T: Copy>(&mut self, from: &[T]) -> T {
         from[self.below(from.len())]
     }
 }
@@ -316,9 +316,7 @@ impl Maker {
         }
     }
 
-    /// Most texts are clean: they hold nothing that demand 2's domain leaves out, as far as the pieces do not join.
-    fn written(&mut self) -> Vec<u8> {
-        let clean = self.random.chance(70);
+    fn pieces(&mut self, clean: bool) -> Vec<u8> {
         let mut text = Vec::new();
         for _ in 0..1 + self.random.below(7) {
             if self.random.chance(45) {
@@ -326,6 +324,18 @@ impl Maker {
             }
             text.extend(self.piece(clean));
         }
+        text
+    }
+
+    /// A text that can stand among others, as far as the pieces do not join.
+    pub fn clean_text(&mut self) -> Vec<u8> {
+        self.pieces(true)
+    }
+
+    /// Most texts are clean: they hold nothing that demand 2's domain leaves out, as far as the pieces do not join.
+    fn written(&mut self) -> Vec<u8> {
+        let clean = self.random.chance(70);
+        let mut text = self.pieces(clean);
         match self.random.below(8) {
             0 => text.extend(self.random.pick(&UNCLOSED).bytes()),
             1..=3 => text.extend(self.random.pick(&MARKS).bytes()),

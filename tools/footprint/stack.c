@@ -21,6 +21,9 @@ static uint8_t image[THRINVAGE_IMAGE_BYTES], image_2[THRINVAGE_IMAGE_BYTES], aga
 static uint32_t nodes[THRINVAGE_NODE_NUMBERS], nodes_again[THRINVAGE_NODE_NUMBERS];
 static struct thrinvage_clause packed, packed_2;
 static uint64_t count;
+/* The reader that is fed chunks. */
+static struct thrinvage_reader reader;
+static uint8_t window[THRINVAGE_WINDOW];
 
 static void next_token(void) {
     struct thrinvage_token t = {0};
@@ -89,6 +92,31 @@ static void move_down(void) {
     thrinvage_move_down(image_2, packed_2.count, again, sizeof again, &bytes);
 }
 
+static void start(void) {
+    thrinvage_start(&reader);
+}
+
+/* The text in one chunk, up to its refusal. */
+static void feed(void) {
+    struct thrinvage_token t = {0};
+    size_t fed = 0;
+    uint32_t number = THRINVAGE_READ;
+    thrinvage_start(&reader);
+    while (number == THRINVAGE_READ || fed < length) {
+        number = thrinvage_feed(&reader, window, text + fed, length - fed, &t);
+        fed += reader.taken;
+        if (number != THRINVAGE_READ && number != THRINVAGE_MORE)
+            return;
+    }
+    thrinvage_finish(&reader);
+    while (thrinvage_feed(&reader, window, NULL, 0, &t) == THRINVAGE_READ) {
+    }
+}
+
+static void finish(void) {
+    thrinvage_finish(&reader);
+}
+
 static const struct {
     const char *name;
     void (*call)(void);
@@ -104,7 +132,10 @@ static const struct {
              {"thrinvage_unpack", unpack},
              {"thrinvage_unpack_either", unpack_either},
              {"thrinvage_move_up", move_up},
-             {"thrinvage_move_down", move_down}};
+             {"thrinvage_move_down", move_down},
+             {"thrinvage_start", start},
+             {"thrinvage_feed", feed},
+             {"thrinvage_finish", finish}};
 
 /* Texts that go deep, each in its own way: `front`, `open` so many times, `middle`, `close` as often, `back`. */
 static const struct {
@@ -116,6 +147,9 @@ static const struct {
     {"", "[", "", "]", ".", DEEPEST / 2},         /* lists */
     {"", "f(", "a", ")", ".", DEEPEST / 3},       /* calls */
     {"'", "\\x41\\", "", "", "'. ", 9000},        /* a long quoted item */
+    {"", "0", ".5e+", "", "1 ", 1022},            /* numbers at a chunk reader's limit: one that may be put back, */
+    {"", "0", ".", "", "x", 1024},                /* one that is, */
+    {"'", "a", "\n", "", "", 1023},               /* and a refusal that comes too late */
     {"1.5e10, f(0x1F,0'a,", "'b',\"c\",D,/* e */ % f\n", "g", "", "). ", 100}, /* tokens of all kinds */
 };
 

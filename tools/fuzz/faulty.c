@@ -22,7 +22,7 @@ struct done {
     uint64_t *record;
     size_t record_size;
     uint32_t number;
-    uint8_t *nodes; /* that packing nodes is given */
+    uint8_t *nodes; /* that packing nodes is given, or the reader that is fed */
     size_t nodes_size;
 };
 
@@ -33,7 +33,7 @@ static bool is_read(const struct done *done)
 
 static bool is_token(const struct done *done)
 {
-    return is_read(done) && done->call <= TEXT;
+    return is_read(done) && (done->call <= TEXT || done->call == FEED);
 }
 
 /* ---- the faults: each says whether it could be put */
@@ -755,6 +755,146 @@ static bool does_not_look_at_the_version(struct done *done)
     return true;
 }
 
+/* ---- in the reader that is fed chunks */
+
+enum { READER_MODE, READER_SLASH, READER_LINE = 3, READER_COLUMN, READER_LAYOUT, READER_FROM, READER_PHASE = 8, READER_REFUSAL, READER_REFUSED_AT, READER_TAKEN };
+enum { REFUSED_READER = 2, INSIDE_COMMENT = 2 };
+
+static uint64_t *reader_of(const struct done *done)
+{
+    return (uint64_t *)done->nodes;
+}
+
+static bool waits(const struct done *done)
+{
+    return done->number == THRINVAGE_MORE;
+}
+
+static bool has_refused(const struct done *done)
+{
+    return reader_of(done)[READER_PHASE] == REFUSED_READER;
+}
+
+static bool writes_past_the_reader(struct done *done)
+{
+    return change(done->nodes + done->nodes_size), true;
+}
+
+static bool writes_before_the_reader(struct done *done)
+{
+    return change(done->nodes - 1), true;
+}
+
+static bool writes_the_window_behind_the_hand(struct done *done)
+{
+    return change(done->lent + done->lent_size - 1), true;
+}
+
+static bool takes_a_byte_more(struct done *done)
+{
+    return reader_of(done)[READER_TAKEN] += 1, true;
+}
+
+static bool takes_a_byte_less(struct done *done)
+{
+    return reader_of(done)[READER_TAKEN] > 0 && (reader_of(done)[READER_TAKEN] -= 1, true);
+}
+
+static bool forgets_that_it_has_refused(struct done *done)
+{
+    return has_refused(done) && (memset(reader_of(done) + READER_PHASE, 0, 3 * sizeof(uint64_t)), true);
+}
+
+static bool keeps_another_refusal(struct done *done)
+{
+    return has_refused(done) && (reader_of(done)[READER_REFUSAL] = 3, true);
+}
+
+static bool keeps_another_place_of_a_refusal(struct done *done)
+{
+    return has_refused(done) && (reader_of(done)[READER_REFUSED_AT] += 1, true);
+}
+
+static bool loses_a_byte_at_hand(struct done *done)
+{
+    return !has_refused(done) && (reader_of(done)[READER_FROM] += 1, true);
+}
+
+static bool keeps_the_layout_over_a_token(struct done *done)
+{
+    return is_read(done) && (reader_of(done)[READER_LAYOUT] = 1, true);
+}
+
+static bool forgets_the_layout(struct done *done)
+{
+    return waits(done) && reader_of(done)[READER_LAYOUT] == 1 && (reader_of(done)[READER_LAYOUT] = 0, true);
+}
+
+static bool forgets_a_line_comment(struct done *done)
+{
+    return waits(done) && reader_of(done)[READER_MODE] == 1 && (reader_of(done)[READER_MODE] = 0, true);
+}
+
+static bool forgets_the_comment(struct done *done)
+{
+    return waits(done) && reader_of(done)[READER_MODE] == INSIDE_COMMENT && (memset(reader_of(done), 0, 2 * sizeof(uint64_t)), true);
+}
+
+static bool forgets_where_a_comment_began(struct done *done)
+{
+    return reader_of(done)[READER_MODE] == INSIDE_COMMENT && (reader_of(done)[READER_SLASH] += 1, true);
+}
+
+static bool counts_a_line_more_in_the_reader(struct done *done)
+{
+    return !has_refused(done) && (reader_of(done)[READER_LINE] += 1, true);
+}
+
+static bool counts_no_column_in_the_reader(struct done *done)
+{
+    return waits(done) && reader_of(done)[READER_COLUMN] > 0 && (reader_of(done)[READER_COLUMN] = 0, true);
+}
+
+static bool asks_for_more_instead_of_a_token(struct done *done)
+{
+    return is_read(done) && (done->number = THRINVAGE_MORE, true);
+}
+
+static bool asks_for_more_instead_of_a_refusal(struct done *done)
+{
+    return !is_read(done) && (done->number = THRINVAGE_MORE, true);
+}
+
+static bool refuses_by_1_instead_of_waiting(struct done *done)
+{
+    return waits(done) && (done->number = THRINVAGE_END_OF_TEXT, true);
+}
+
+static bool says_7_for_15(struct done *done)
+{
+    return done->number == THRINVAGE_TOKEN_TOO_LONG && (done->number = THRINVAGE_OUT_OF_LIMIT, true);
+}
+
+static bool says_15_for_7(struct done *done)
+{
+    return done->number == THRINVAGE_OUT_OF_LIMIT && (done->number = THRINVAGE_TOKEN_TOO_LONG, true);
+}
+
+static bool points_8_at_1(struct done *done)
+{
+    return done->number == THRINVAGE_NOT_VALID && (done->record[REFUSED_AT] = reader_of(done)[READER_REFUSED_AT] = 1, true);
+}
+
+static bool points_15_a_byte_late(struct done *done)
+{
+    return done->number == THRINVAGE_TOKEN_TOO_LONG && (reader_of(done)[READER_REFUSED_AT] = done->record[REFUSED_AT] += 1, true);
+}
+
+static bool goes_on_behind_the_end(struct done *done)
+{
+    return reader_of(done)[READER_PHASE] == 1 && (reader_of(done)[READER_PHASE] = 0, true);
+}
+
 /* ---- nothing to put: the archive was told of a byte or a number more than there is */
 
 static bool is_told_of_a_longer_text(struct done *done)
@@ -781,6 +921,7 @@ enum { CLAUSE_CALLS = CALLS + 1 };
 #define FAULT_IN_NODES(name) FAULT_IN(NODES, name), FAULT_IN(NODES_2, name)
 #define FAULT_IN_UNPACKING(name) FAULT_IN(UNPACK, name), FAULT_IN(EITHER, name)
 #define FAULT_IN_MOVING(name) FAULT_IN(UP, name), FAULT_IN(DOWN, name)
+#define FAULT_IN_READERS(name) FAULT_IN(FEED, name), FAULT_IN(FINISH, name), FAULT_IN(START_READER, name)
 #define FAULT_IN_CLAUSES(name) FAULT_IN(READ, name), FAULT_IN(LIST, name), FAULT_IN_PACKING(name)
 #define FAULT_IN_EACH(name) FAULT_IN_PACKING(name), FAULT_IN_NODES(name), FAULT_IN_UNPACKING(name), FAULT_IN_MOVING(name)
 
@@ -955,6 +1096,60 @@ static const struct fault {
     FAULT_IN(NODES_2, says_13_of_the_longest_that_fits),
     FAULT_IN(UP, says_13_of_the_longest_that_fits),
     FAULT_IN(DOWN, says_13_of_the_longest),
+    /* the reader that is fed chunks */
+    FAULT_IN(FEED, reads_past_the_text),
+    FAULT_IN(FEED, reads_before_the_text),
+    FAULT_IN(FEED, changes_the_text),
+    FAULT_IN(FEED, is_told_of_a_longer_text),
+    FAULT_IN(FEED, writes_past_what_is_lent),
+    FAULT_IN(FEED, writes_before_what_is_lent),
+    FAULT_IN(FEED, writes_what_is_lent_on_a_refusal),
+    FAULT_IN(FEED, writes_the_window_behind_the_hand),
+    FAULT_IN(FEED, writes_past_the_record),
+    FAULT_IN(FEED, writes_before_the_record),
+    FAULT_IN(FEED, writes_the_last_field_on_a_refusal),
+    FAULT_IN_READERS(writes_past_the_reader),
+    FAULT_IN_READERS(writes_before_the_reader),
+    FAULT_IN_READERS(takes_a_byte_more),
+    FAULT_IN_READERS(counts_a_line_more_in_the_reader),
+    FAULT_IN(FEED, takes_a_byte_less),
+    FAULT_IN(FEED, forgets_that_it_has_refused),
+    FAULT_IN(FINISH, forgets_that_it_has_refused),
+    FAULT_IN(FEED, keeps_another_refusal),
+    FAULT_IN(FINISH, keeps_another_refusal),
+    FAULT_IN(FEED, keeps_another_place_of_a_refusal),
+    FAULT_IN(FEED, loses_a_byte_at_hand),
+    FAULT_IN(FEED, keeps_the_layout_over_a_token),
+    FAULT_IN(FEED, forgets_the_layout),
+    FAULT_IN(FEED, forgets_a_line_comment),
+    FAULT_IN(FEED, forgets_the_comment),
+    FAULT_IN(FEED, forgets_where_a_comment_began),
+    FAULT_IN(FINISH, forgets_where_a_comment_began),
+    FAULT_IN(FEED, counts_no_column_in_the_reader),
+    FAULT_IN(FEED, asks_for_more_instead_of_a_token),
+    FAULT_IN(FEED, asks_for_more_instead_of_a_refusal),
+    FAULT_IN(FEED, refuses_by_1_instead_of_waiting),
+    FAULT_IN(FEED, reads_what_is_refused),
+    FAULT_IN(FEED, refuses_what_is_read),
+    FAULT_IN(FEED, refuses_by_13),
+    FAULT_IN(FEED, refuses_a_valid_cursor),
+    FAULT_IN(FEED, takes_a_cursor_that_is_not_valid),
+    FAULT_IN(FEED, says_7_for_15),
+    FAULT_IN(FEED, says_15_for_7),
+    FAULT_IN(FEED, points_8_at_1),
+    FAULT_IN(FEED, points_15_a_byte_late),
+    FAULT_IN(FEED, goes_on_behind_the_end),
+    FAULT_IN(FINISH, goes_on_behind_the_end),
+    FAULT_IN(FEED, is_refused_at_something_and_read),
+    FAULT_IN(FEED, moves_no_cursor),
+    FAULT_IN(FEED, counts_a_line_more),
+    FAULT_IN(FEED, counts_a_column_more),
+    FAULT_IN(FEED, starts_where_it_ends),
+    FAULT_IN(FEED, starts_before_the_cursor),
+    FAULT_IN(FEED, gives_kind_15),
+    FAULT_IN(FEED, gives_value_kind_3),
+    FAULT_IN(FEED, gives_a_value_to_no_number),
+    FAULT_IN(FEED, gives_a_value_that_differs_now_and_then),
 };
 
 enum { FAULTS = sizeof faults / sizeof *faults };
@@ -1113,4 +1308,30 @@ uint32_t __wrap_thrinvage_pack_nodes_form_2(NODES_GIVEN, uint16_t line, uint8_t 
 {
     return NODES_DONE(NODES_2, __real_thrinvage_pack_nodes_form_2(bytes, told(NODES_2, length), nodes, told_numbers(NODES_2, numbers), count, line, out,
                                                                   told_room(NODES_2, room), packed));
+}
+
+uint32_t __real_thrinvage_feed(struct thrinvage_reader *reader, uint8_t *window, const uint8_t *chunk, size_t length, struct thrinvage_token *token);
+void __real_thrinvage_finish(struct thrinvage_reader *reader);
+void __real_thrinvage_start(struct thrinvage_reader *reader);
+
+uint32_t __wrap_thrinvage_feed(struct thrinvage_reader *reader, uint8_t *window, const uint8_t *chunk, size_t length, struct thrinvage_token *token)
+{
+    size_t offset = reader->offset, line = reader->line;
+    uint32_t number = __real_thrinvage_feed(reader, window, chunk, told(FEED, length), token);
+    return with_fault((struct done){FEED, (uint8_t *)chunk, length, offset, line, window, THRINVAGE_WINDOW, (uint64_t *)token, sizeof *token, number, (uint8_t *)reader, sizeof *reader});
+}
+
+#define READER_DONE(call, offset) with_fault((struct done){call, NULL, 0, offset, 0, NULL, 0, NULL, 0, THRINVAGE_READ, (uint8_t *)reader, sizeof *reader})
+
+void __wrap_thrinvage_finish(struct thrinvage_reader *reader)
+{
+    __real_thrinvage_finish(reader);
+    READER_DONE(FINISH, reader->offset);
+}
+
+void __wrap_thrinvage_start(struct thrinvage_reader *reader)
+{
+    size_t offset = reader->offset;
+    __real_thrinvage_start(reader);
+    READER_DONE(START_READER, offset);
 }

@@ -1,5 +1,6 @@
-/* Calls the archive with random texts, packs, cursors and rooms, each call twice in two places, and looks at all that comes back. See tools/README.md.
+/* Calls the archive with random texts, packs, cursors, rooms, chunks and readers, each call twice in two places, and looks at all that comes back. See tools/README.md.
  * usage: fuzz [--seconds N] [--seed N] [--round N] [--place N] FILE..    (FILEs of Prolog, parts of which are among the texts) */
+#include "chunks.h"
 #include "images.h"
 #include "no_reading.h"
 #include "packs.h"
@@ -513,6 +514,7 @@ static void run_round(void)
     free_slice(&copies.one);
     free_slice(&copies.other);
     run_packs(&random, &now_packed);
+    run_chunks(&random, &now_text);
 }
 
 /* ---- the run */

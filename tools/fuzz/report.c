@@ -7,7 +7,7 @@ enum { MOST_SHOWN = 300 };
 
 static const char *const call_names[CALLS] = {"next_token",         "next_number_token", "next_token_text",   "read_clause", "list_clause", "pack_clause",
                                               "pack_clause_form_2", "pack_nodes",        "pack_nodes_form_2", "unpack",      "unpack_either",
-                                              "move_up",            "move_down"};
+                                              "move_up",            "move_down",         "feed",              "finish",      "start"};
 
 static const char *const kind_names[] = {"name", "variable", "string", "number", "(", "( right behind", ")", "[", "]", "{", "}", "|", "||", "comma", "end mark"};
 enum { KINDS = sizeof kind_names / sizeof *kind_names };
@@ -15,7 +15,7 @@ enum { KINDS = sizeof kind_names / sizeof *kind_names };
 uint64_t seed, now_round;
 struct running running;
 
-static uint64_t counts[CALLS][REFUSALS];
+static uint64_t counts[CALLS][ANSWERS];
 static uint64_t pointed[KINDS], not_completed;
 
 static void show_bytes(void)
@@ -33,6 +33,15 @@ static void show_nodes(void)
     fprintf(stderr, "\n");
 }
 
+static void show_reader(void)
+{
+    enum { FIELDS = 12 };
+    fprintf(stderr, "fuzz: a reader of");
+    for (size_t i = 0; i < FIELDS; i++)
+        fprintf(stderr, " %llu", (unsigned long long)running.reader[i]);
+    fprintf(stderr, "\n");
+}
+
 void show_case(void)
 {
     fprintf(stderr, "fuzz: --seed %llu --round %llu: %s at %zu %zu %zu, room %zu, %zu bytes:", (unsigned long long)seed, (unsigned long long)now_round,
@@ -40,6 +49,8 @@ void show_case(void)
     show_bytes();
     if (running.call == NODES || running.call == NODES_2)
         show_nodes();
+    if (running.reader != NULL)
+        show_reader();
 }
 
 void must(bool so, const char *what)
@@ -76,7 +87,7 @@ static void show_pointed(void)
 /* Those between are of calls that there are not. */
 static int next_number(int number)
 {
-    return number == THRINVAGE_NO_PACK ? THRINVAGE_UNKNOWN_VERSION : number + 1;
+    return number == THRINVAGE_TOKEN_TOO_LONG ? THRINVAGE_UNKNOWN_VERSION : number + 1;
 }
 
 uint64_t show_counts(void)
@@ -85,7 +96,7 @@ uint64_t show_counts(void)
     printf("%-18s %12s", "call", "read");
     for (int number = 1; number < REFUSALS; number = next_number(number))
         printf(" %9s %d", "refused", number);
-    printf("\n");
+    printf(" %12s\n", "asks more");
     for (int call = 0; call < CALLS; call++) {
         printf("%-18s %12llu", call_names[call], (unsigned long long)counts[call][0]);
         sum += counts[call][0];
@@ -93,7 +104,8 @@ uint64_t show_counts(void)
             printf(" %*llu", number < 10 ? 11 : 12, (unsigned long long)counts[call][number]);
             sum += counts[call][number];
         }
-        printf("\n");
+        printf(" %12llu\n", (unsigned long long)counts[call][ASKS_FOR_MORE]);
+        sum += counts[call][ASKS_FOR_MORE];
     }
     show_pointed();
     printf("%llu calls in %llu rounds, seed %llu, 0 faults\n", (unsigned long long)sum, (unsigned long long)now_round, (unsigned long long)seed);

@@ -6,15 +6,17 @@
 #include <stddef.h>
 #include <stdint.h>
 
-/* Up to PACK_2 they read a text from a cursor on; from UNPACK on they take an image. */
-enum call { TOKEN, NUMBER, TEXT, READ, LIST, PACK, PACK_2, NODES, NODES_2, UNPACK, EITHER, UP, DOWN, CALLS };
-enum { REFUSALS = 19 };
+/* Up to PACK_2 they read a text from a cursor on; from UNPACK to DOWN they take an image; the last three are of the reader that is fed chunks. */
+enum call { TOKEN, NUMBER, TEXT, READ, LIST, PACK, PACK_2, NODES, NODES_2, UNPACK, EITHER, UP, DOWN, FEED, FINISH, START_READER, CALLS };
+/* The last is no refusal: more is asked for. */
+enum { REFUSALS = 19, ASKS_FOR_MORE = REFUSALS, ANSWERS };
 
 struct cursor {
     size_t offset, line, column;
 };
 
-/* A call and what it is given: nodes, numbers and count are of NODES and NODES_2 alone, the line field of NODES_2. */
+/* A call and what it is given: nodes, numbers and count are of NODES and NODES_2 alone, the line field of NODES_2; the reader's fields of those that are fed
+ * chunks. */
 struct running {
     enum call call;
     struct cursor at;
@@ -24,6 +26,7 @@ struct running {
     const uint32_t *nodes;
     size_t numbers, count;
     uint16_t line;
+    const uint64_t *reader;
 };
 
 extern uint64_t seed, now_round;
@@ -32,7 +35,7 @@ extern struct running running;
 void must(bool so, const char *what);
 void show_case(void);
 
-/* Of the two calls that must answer alike. */
+/* Of the two calls that must answer alike: 0, a refusal's number, or ASKS_FOR_MORE. */
 void count_answers(uint32_t number);
 
 /* Of a refusal 11 that was looked at by its definition: the kind of the token that it points at, and whether the tokens before it were completed to a clause. */
