@@ -6,8 +6,11 @@ use crate::layout::turn_ahead;
 use lexer::Cursor;
 use lexer::Fault;
 use lexer::skip_char;
+use lexer::stretch_end;
 ghost use mathlib.Core.Path.{_≡_};
 ghost use lib.ListN.{length};
+ghost use Rattle.lexer.specs.Cursor.{along};
+ghost use Rattle.chunks.specs.Layouts.{plainEnd};
 ghost use Rattle.chunks.specs.Reader.{pass, placed, Passable};
 
 // Why it stops: a token starts; more must be known, and where the text ends it is refused so; refused.
@@ -25,6 +28,35 @@ pub struct Place {
     pub why: Why,
 }
 
+// In no stretch.
+const NONE: u8 = 0;
+
+// Where the bytes from `at` on end that leave the mode as it is, none of them a newline; `left` of a turn are still to be passed.
+fn plain_end(hand: &[u8], at: usize, left: usize, mode: Mode) -> usize
+    ensures { λ r. ⌜ r ≡ plainEnd left mode (now (hand .entry)) at ⌝ }
+{
+    if left != 0 {
+        return at;
+    }
+    match mode {
+        Mode::Blank => stretch_end(hand, at, b' ', b' ', NONE, NONE),
+        Mode::Line => stretch_end(hand, at, b' ', b'~', NONE, NONE),
+        Mode::Inside(_) => stretch_end(hand, at, b' ', b'~', b'*', NONE),
+    }
+}
+
+// Past `n` such bytes.
+fn past_plain(c: Cursor, n: usize) -> Cursor
+    requires { ⌜ Passable n c ⌝ }
+    ensures { λ r. ⌜ r ≡ along c n ⌝ }
+{
+    Cursor {
+        offset: c.offset + n,
+        line: c.line,
+        column: c.column + n,
+    }
+}
+
 // Over what stands at hand, from the mode and the cursor on; `layout` says whether some was passed before.
 pub(crate) fn pass_layout(hand: &[u8], mode: Mode, cursor: Cursor, layout: bool) -> Place
     requires { ⌜ Passable (length (now hand)) cursor ⌝ }
@@ -38,8 +70,11 @@ pub(crate) fn pass_layout(hand: &[u8], mode: Mode, cursor: Cursor, layout: bool)
     while at < hand.len() {
         match turn_ahead(hand, at, left, m, c.offset) {
             Turn::On { mode: next, more } => {
-                c = skip_char(c, hand[at]);
-                at += 1;
+                let passed = skip_char(c, hand[at]);
+                let start = at + 1;
+                let end = plain_end(hand, start, more, next);
+                c = past_plain(passed, end - start);
+                at = end;
                 left = more;
                 m = next;
                 l = true;

@@ -26,6 +26,7 @@ pub use number::number_end;
 pub use refusal::Fault;
 pub use refusal::Refusal;
 pub use refusal::refusal_number;
+pub use stretch::stretch_end;
 pub use text::Part;
 pub use text::QuotedAnswer;
 pub use text::TextAnswer;

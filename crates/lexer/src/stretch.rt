@@ -21,7 +21,7 @@ fn in_stretch(first: u8, last: u8, but: u8, nor: u8, b: u8) -> bool
 }
 
 // Where a stretch of such bytes ends.
-pub(crate) fn stretch_end(text: &[u8], from: usize, first: u8, last: u8, but: u8, nor: u8) -> usize
+pub fn stretch_end(text: &[u8], from: usize, first: u8, last: u8, but: u8, nor: u8) -> usize
     ensures { λ r. ⌜ r ≡ stretchEnd first last but nor (now (text .entry)) from ⌝ }
 {
     let mut at = from;
