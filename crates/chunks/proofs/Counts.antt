@@ -27,7 +27,7 @@ pub record Rest (from sum : ℕ) (d : Cursor) (u : List ℕ) : Type 0 where
   pub able : Passable (length u) d
 
 abbrev pub Counts : ℕ → ℕ → Gives → Type 0
-Counts from sum (handed t d u) = Rest (from + 1) sum d u
+Counts from sum (handed t d u) = Rest (from + 1) sum d u × (from ≤ t .start)
 Counts from sum (more m d l u) = Rest from sum d u
 Counts from sum (never w) = Unit {0}
 
@@ -46,7 +46,7 @@ module _ (from sum : ℕ) (m : Mode) (d : Cursor) (l : Bool) (u : List ℕ) (r :
 
   judged-counts : (some : 0 < length u) (ended : Bool) (k : Verdict) → Right l u 0 u [] (sym (append-nil u)) (omega arith) some ended (λ _. refl) k → Counts from sum (judged m d l u k)
   unfolding judged
-  judged-counts some ended (settled (lexeme t e x)) q = further e (q .1 .0) (q .1 .1)
+  judged-counts some ended (settled (lexeme t e x)) q = (further e (q .1 .0) (q .1 .1), (let a = r .ahead in omega arith))
   judged-counts some ended (settled (refused w)) q = tt
   judged-counts some ended tooLong q = tt
   judged-counts some ended waiting q = r

@@ -82,7 +82,7 @@ module _ (r : Reader) (n : ℕ) (t : Bool) (e : t ≡ sound r) where
 module _ (r : Reader) (to from sum k : ℕ) where
   pub gives-behind : (g : Gives) → Counts from sum g → sum ≤ from + to → Behind to sum (toNext g)
   unfolding toNext
-  gives-behind (handed t d u) q h = record { read = (let c = q .count in omega arith); rest = (let a = q .ahead in omega arith) }
+  gives-behind (handed t d u) q h = record { read = (let c = q .0 .count in omega arith); rest = (let a = q .0 .ahead in omega arith) }
   gives-behind (more m d l u) q h = record { read = (let c = q .count in omega arith); rest = (let a = q .ahead in omega arith) }
   gives-behind (never w) q h = tt
 
@@ -92,7 +92,7 @@ module _ (r : Reader) (to from sum k : ℕ) where
 
   pub fed-gave : (g : Gives) → Counts from sum g → fedBy r to sum k (toNext g) ≡ gave r to k g
   unfolding toNext fedBy gave
-  fed-gave (handed t d u) q = ap (λ (i : ℕ). record { reader = record { mode = Blank; cursor = d; layout = false; from = i; to = to; phase = r .phase }; taken = k; given = Given.Token t d }) (left-same d u (q .count))
+  fed-gave (handed t d u) q = ap (λ (i : ℕ). record { reader = record { mode = Blank; cursor = d; layout = false; from = i; to = to; phase = r .phase }; taken = k; given = Given.Token t d }) (left-same d u (q .0 .count))
   fed-gave (more m d l u) q = ap (λ (i : ℕ). record { reader = record { mode = m; cursor = d; layout = l; from = i; to = to; phase = r .phase }; taken = k; given = Given.More }) (left-same d u (q .count))
   fed-gave (never w) q = refl
 

@@ -196,12 +196,12 @@ module _ (s : List ℕ) (c : Cursor) (h : Brief s c) (ended : Bool) where
         counted : (t : Token) (d : Cursor) (y : Gives) → toNext y ≡ Next.Token t d → Counts 0 (0 + length v) y → Sums c d
         counted t d (handed t₁ d₁ u) q r =
             let i : d₁ ≡ d = cc in
-            let n = r .count in
+            let n = r .0 .count in
             let k = able .short in
             let l₁ = able .line in
             let l₂ = able .column in
-            let m₁ = r .able .line in
-            let m₂ = r .able .column in
+            let m₁ = r .0 .able .line in
+            let m₂ = r .0 .able .column in
             subst (Sums c) i (record { offset = omega arith; line = omega arith; column = omega arith })
         counted t d (more m d₁ l u) q r = let y : _≡_ {A = ℕ} 0 1 = cc in absurd (omega arith)
         counted t d (never w) q r = let y : _≡_ {A = ℕ} 0 1 = cc in absurd (omega arith)

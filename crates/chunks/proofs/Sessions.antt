@@ -3,11 +3,12 @@ use mathlib.Core.Path.{_≡_, refl, sym, subst, _∙_, ap}
 use mathlib.Core.Bool.{Bool, true, false, cond, _&&_}
 use mathlib.Core.List.{List, [], _∷_, _++_, append-assoc, append-nil}
 use Prim.Native.Nat.{ℕ, zero, suc, _+_, _-_, _<_, _≤_, min}
+use native.Mathlib.Decide.{decLe}
 use native.Mathlib.Omega.{arith}
 use borrow.Author.Tests.{lt-ltb, ltb-true, le-leb}
 use lib.Dec.{leb, ltb}
 use lib.ListN.{length, take, drop, length-append, length-drop, length-take, take-append-drop}
-use lib.Seq.{length-take-le, take-nil, drop-drop}
+use lib.Seq.{length-take-le, take-nil, take-take, drop-drop}
 use Rattle.lexer.specs.Cursor.{longest, startCursor, valid, Valid, part}
 use Rattle.lexer.specs.Token.{refused}
 use Rattle.lexer.specs.declared.refusal.Fault.{Fault}
@@ -66,15 +67,45 @@ rest-of s v u a b h e f =
 none-taken : (k : ℕ) (c z : List ℕ) → c ≡ [] → z ≡ [] → take k c ++ z ≡ []
 none-taken k c z e f = ap (λ (y : List ℕ). take k y ++ z) e ∙ ap (λ (y : List ℕ). y ++ z) (take-nil k) ∙ f
 
+-- where bytes stand that end n before `to`, in the window and in the text
+module _ (to n start end c size front : ℕ) (a : start ≤ end) (b : c ≤ start) (d : end + n ≡ c + size) (e : to ≡ front + size) where
+  first-there : to - n - (end - start) ≡ front + (start - c)
+  first-there = let i : to - n ≡ front + (end - c) = omega arith in omega arith
+
+  all-there : to - n - (to - n - (end - start)) ≡ end - start
+  all-there = let i : to - n ≡ front + (end - c) = omega arith in omega arith
+
+  from-there : c + (start - c) ≡ start
+  from-there = omega arith
+
+  few-there : end - start ≤ size - (start - c)
+  few-there = omega arith
+
+  within : start - c ≤ size
+  within = omega arith
+
+none-there : (m start end : ℕ) → (start ≤ end → ⊥) → m - (m - (end - start)) ≡ 0
+none-there m start end l = omega arith
+
+no-bytes : (start end : ℕ) → (start ≤ end → ⊥) → end - start ≡ 0
+no-bytes start end l = omega arith
+
+in-all : (a b c l : ℕ) → l ≡ b + c → a + b + c ≡ a + l
+in-all a b c l e = omega arith
+
 -- ---- one call
 
 -- p is in truth not enough: with fewer than 1,025 bytes at hand, what comes next is another if a foreign byte follows than if the text ends there
 abbrev pub Unsure : List ℕ → Cursor → Reader → Type 0
 Unsure p o r = atHand r < longestToken + 1 → nextLexeme (p ++ unknown ∷ []) (o .offset) ≡ nextLexeme p (o .offset) → ⊥
 
+-- a token's own bytes stand in the window, right before those at hand
+abbrev pub Bytes : List ℕ → Reader → List ℕ → Token → Cursor → Type 0
+Bytes p r w t d = part (r .from - (d .offset - t .start)) (r .from) w ≡ part (t .start) (d .offset) p
+
 -- what it gives, of every text that goes on from p: the next token, and the reader stands behind it; or more is wanted, and it stands further on; or the refusal
 abbrev pub Gave : Bool → List ℕ → Cursor → Reader → List ℕ → Given → Type 0
-Gave ended p o r w (Given.Token t d) = ((z : List ℕ) → Follows ended z → Next (p ++ z) o t d) × (o .offset < d .offset) × Driven ended p d r w
+Gave ended p o r w (Given.Token t d) = ((z : List ℕ) → Follows ended z → Next (p ++ z) o t d) × (o .offset < d .offset) × Driven ended p d r w × Bytes p r w t d
 Gave ended p o r w Given.More = (ended ≡ false) × Driven ended p o r w × Unsure p o r
 Gave ended p o r w (Given.Refused v) = (z : List ℕ) → Follows ended z → nextLexeme (p ++ z) (o .offset) ≡ refused v
 
@@ -211,6 +242,30 @@ module _ (ended : Bool) (p : List ℕ) (o : Cursor) (r : Reader) (w : List ℕ) 
           stands = λ z f. subst (Stands ((p ++ x) ++ z) o′ z m′ c′ l′) (sym hand-there) (st z f);
         }
 
+  -- the bytes from one offset to another, where n are left behind them
+  own-bytes : (start end n : ℕ) → r .cursor .offset ≤ start → end + n ≡ r .cursor .offset + length v → part (to - n - (end - start)) (to - n) w′ ≡ part start end (p ++ x)
+  own-bytes start end n h e = go (decLe start end)
+    where
+      hand : drop (r .cursor .offset) (p ++ x) ≡ v
+      hand = ap (drop (r .cursor .offset)) (sym (append-nil (p ++ x))) ∙ stands′ [] (λ _. refl) .hand ∙ append-nil v
+
+      go : Dec (start ≤ end) → part (to - n - (end - start)) (to - n) w′ ≡ part start end (p ++ x)
+      go (no l) =
+          let i = no-bytes start end l in
+          let k = none-there (to - n) start end l in
+          ap (λ (b : ℕ). take b (drop (to - n - (end - start)) w′)) k ∙ sym (ap (λ (b : ℕ). take b (drop start (p ++ x))) i)
+      go (yes l) =
+          let j = start - r .cursor .offset in
+          let y = in-all (place r) (atHand r) k (length v) hand-size in
+          let i = first-there to n start end (r .cursor .offset) (length v) (place r) l h e y in
+          let b = all-there to n start end (r .cursor .offset) (length v) (place r) l h e y in
+          let q = from-there to n start end (r .cursor .offset) (length v) (place r) l h e y in
+          let m₁ = few-there to n start end (r .cursor .offset) (length v) (place r) l h e y in
+          let m₂ = within to n start end (r .cursor .offset) (length v) (place r) l h e y in
+          ap (λ (a : ℕ). take a (drop (to - n - (end - start)) w′)) b ∙ ap (λ (a : ℕ). take (end - start) (drop a w′)) i
+          ∙ sym (take-take (end - start) (length v - j) (drop (place r + j) w′) m₁)
+          ∙ ap (take (end - start)) (suffix (place r) (length v) j w′ v in-window refl m₂ ∙ ap (drop j) (sym hand) ∙ drop-drop j (r .cursor .offset) (p ++ x) ∙ ap (λ (b : ℕ). drop b (p ++ x)) q)
+
   -- ---- what a call tells
   told : (z : List ℕ) (f : Follows ended z) → Tells ((p ++ x) ++ z) o z ended f (reading ended (r .mode) (r .cursor) (r .layout) v)
   told z f = reading-tells ((p ++ x) ++ z) o z ended f (r .mode) (r .cursor) (r .layout) v (stands′ z f)
@@ -220,13 +275,14 @@ module _ (ended : Bool) (p : List ℕ) (o : Cursor) (r : Reader) (w : List ℕ) 
   unfolding gave
   by-gives (handed t e u) g c tell =
       let n = hand-few in
-      let y = c .count in
-      let a = c .ahead in (
+      let y = c .0 .count in
+      let a = c .0 .ahead in (
         refl,
         (
           (λ z f. tell z f .0),
           tell [] (λ _. refl) .2,
-          driven-on e blank e false u (record { ahead = omega arith; count = c .count; able = c .able }) (omega arith) (λ z f. tell z f .1),
+          driven-on e blank e false u (record { ahead = omega arith; count = c .0 .count; able = c .0 .able }) (omega arith) (λ z f. tell z f .1),
+          own-bytes (t .start) (e .offset) (length u) (c .1) (omega arith),
         ),
       )
   by-gives (more m′ c′ l′ u′) g c tell =
