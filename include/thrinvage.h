@@ -237,6 +237,12 @@ void thrinvage_finish(struct thrinvage_reader *reader);
  * are read. */
 uint32_t thrinvage_feed(struct thrinvage_reader *reader, uint8_t *window, const uint8_t *chunk, size_t length, struct thrinvage_token *token);
 
+/* The bytes of the token that the last thrinvage_feed gave, token->offset - token->start of them: they stand in the window, right before those at hand, until
+ * the next call. So a name can be told from another though the text is not kept. */
+static inline const uint8_t *thrinvage_token_bytes(const struct thrinvage_reader *reader, const uint8_t *window, const struct thrinvage_token *token) {
+    return window + (reader->from - (token->offset - token->start));
+}
+
 /* ---- A clause in a message
  *
  * An image is one clause's tree, spellings and all, in one piece: what unpacks it needs neither the text nor an operator table. It is of these bytes,

@@ -570,6 +570,13 @@ impl Reader {
         (self.raw.taken as usize, given)
     }
 
+    /// The bytes of the token that the last call gave: they stand in the window until the next. Of another token nothing, or other bytes.
+    pub fn bytes_of(&self, token: &Token) -> Option<&[u8]> {
+        let end = self.raw.from as usize;
+        let start = end.checked_sub(token.next.offset.checked_sub(token.start)?)?;
+        self.window.get(start..end)
+    }
+
     /// The text has ended.
     pub fn finish(&mut self) {
         // SAFETY: the pointer is of a field.

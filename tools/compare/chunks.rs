@@ -112,6 +112,8 @@ impl Run<'_> {
     fn hold_token(&mut self, token: Token) -> Result<(), Fault> {
         let due = self.whole.next(&self.last);
         unless(due == Next::Token(token), || format!("given {:?}, due {due:?}", Next::Token(token)))?;
+        let own = self.whole.part(token[feeding::START], token[feeding::OFFSET]);
+        unless(self.feeding.token_bytes() == own, || format!("its bytes are {:?}, due {own:?}", self.feeding.token_bytes()))?;
         self.counts.tokens += 1;
         self.counts.longest = self.counts.longest.max(token[feeding::OFFSET] - token[feeding::START]);
         self.last = token;

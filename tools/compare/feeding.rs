@@ -82,6 +82,12 @@ impl Feeding {
         unsafe { thrinvage_feed(&mut self.state, &mut *self.window, chunk.as_ptr(), chunk.len(), &mut self.token) }
     }
 
+    /// The bytes of the token that the last call gave, by the header's `thrinvage_token_bytes`.
+    pub fn token_bytes(&self) -> &[u8] {
+        let end = self.state.from as usize;
+        &self.window[end - (self.token[OFFSET] - self.token[START]) as usize..end]
+    }
+
     /// Delivered, and not yet read.
     pub fn at_hand(&self) -> u64 {
         self.state.to - self.state.from

@@ -28,6 +28,11 @@ pub struct Whole {
 }
 
 impl Whole {
+    /// Bytes of the text.
+    pub fn part(&self, start: u64, end: u64) -> &[u8] {
+        &self.bytes[start as usize..end as usize]
+    }
+
     pub fn new(text: &[u8], longest: usize) -> Whole {
         Whole { bytes: [text, &[0]].concat(), length: text.len(), longest }
     }
