@@ -7,16 +7,17 @@ use Prim.Native.Nat.{ℕ, _+_, _-_, _<_, _≤_}
 use native.Mathlib.Omega.{arith}
 use borrow.Author.Tests.{eqb-true, eq-eqb, lt-ltb, le-ltb}
 use lib.Dec.{eqb, ltb}
-use lib.ListN.{length, getD, length-append}
+use lib.ListN.{length, take, drop, getD, length-append}
 use lib.Seq.{length-take-le}
 use Rattle.lexer.specs.Chars.{is, classOf, decimalDigit}
 use Rattle.lexer.specs.Digits.{isDigit}
 use Rattle.lexer.specs.Cursor.{longest, startCursor}
 use Rattle.lexer.specs.Layout.{layoutEnd}
 use Rattle.lexer.specs.Number.{numberToken, numberEnd}
-use Rattle.lexer.specs.Refusal.{fault}
+use Rattle.lexer.specs.Refusal.{numberOf, fault}
 use Rattle.lexer.specs.Token.{Text, Lexeme, lexeme, refused, readLexeme, answered, nextToken}
 use Rattle.lexer.specs.declared.refusal.Fault.{Fault}
+use Rattle.lexer.specs.declared.refusal.Refusal.{Refusal}
 use Rattle.lexer.specs.declared.refusal.Refusal.the-variants.{ForeignByte}
 use Rattle.lexer.specs.declared.cursor.Cursor.{Cursor}
 use Rattle.lexer.specs.declared.cursor.Scan.the-variants.{Stop}
@@ -24,6 +25,8 @@ use Rattle.lexer.specs.declared.number.NumberToken.{NumberToken}
 use Rattle.lexer.specs.declared.token.Answer.{Answer}
 use Rattle.lexer.specs.declared.token.Token.{Token}
 use Rattle.lexer.proofs.Calls.{read-promises}
+use Rattle.lexer.proofs.Cursors.{both}
+use Rattle.lexer.proofs.Refusals.{number-once}
 use Rattle.lexer.proofs.Faults.{refusal-placed, placed-inside}
 use Rattle.lexer.proofs.Layouts.{Before, layout-ends}
 use Rattle.lexer.proofs.Numbers.{whole-ends, partial-ends}
@@ -31,10 +34,15 @@ use Rattle.lexer.proofs.Promises.{class-digit, token-there}
 use Rattle.lexer.proofs.Spans.{by-test}
 use Rattle.chunks.specs.Answers.{answerCame, ofAnswer, handOf}
 use Rattle.chunks.specs.Hand.{toNext, nextBy, TokenFits, Fits, Held, Brief}
-use Rattle.chunks.specs.Reader.{Gives, handed, more, never, reading, Sums, Passable}
+use Rattle.chunks.specs.Reader.{Gives, handed, more, never, Passed, stopped, pass, placed, judged, given, reading, Sums, Passable}
 use Rattle.chunks.specs.Shift.{unknown}
 use Rattle.chunks.specs.Whole.{longestToken, tokenAt, ownByte, endOf, tokenEnd, unshown, longerThan, showing, longer, nextLexeme, Next as Next′, NoneLonger}
 use Rattle.chunks.specs.declared.hand.Next.{Next}
+use Rattle.chunks.specs.Verdict.{Verdict, settled, tooLong, waiting, verdict}
+use Rattle.chunks.specs.declared.layout.Mode.{Mode}
+use Rattle.chunks.specs.declared.pass.Place.{Place}
+use Rattle.chunks.specs.declared.pass.Why.{Why}
+use Rattle.chunks.specs.declared.pass.Why.the-variants.{Starts, Waits, Stops}
 use Rattle.chunks.specs.declared.verdict.Judgement.{Judgement}
 use Rattle.chunks.specs.declared.layout.Mode.the-variants.{Blank as blank}
 use Rattle.chunks.proofs.AsCalls.{Fifteen, next-cases, answers}
@@ -222,6 +230,86 @@ module _ (s : List ℕ) (c : Cursor) (h : Brief s c) (ended : Bool) where
             let n = h .held .able .short in
             let o = h .held .some in
             omega arith
+
+-- ---- the call came to the unknown byte: more is wanted
+
+-- a refusal 5 points at a byte of the text
+five-inside : (s : List ℕ) (n : ℕ) → nextToken s startCursor ≡ Answer.Refused (fault ForeignByte n) startCursor → n < length s
+five-inside s n e = refusal-placed s startCursor false (fault ForeignByte n) startCursor e .inside
+
+came-fault : (n : ℕ) (w : Fault) → answerCame n (Answer.Refused w startCursor) ≡ true → w ≡ fault ForeignByte n
+unfolding answerCame
+came-fault n w e =
+    let p = both (eqb (numberOf (w .refusal)) 5) (eqb (w .offset) n) e in
+    let r = number-once (w .refusal) ForeignByte (eqb-true (numberOf (w .refusal)) 5 (p .0)) in
+    ap (λ (k : Refusal). fault k (w .offset)) r ∙ ap (fault ForeignByte) (eqb-true (w .offset) n (p .1))
+
+came-read : (n : ℕ) (t : Token) (d : Cursor) → answerCame n (Answer.Read t d) ≡ true → ⊥
+unfolding answerCame
+came-read n t d e = let y : _≡_ {A = ℕ} 0 1 = cc in omega arith
+
+-- what is given then is where the reader stands
+abbrev IsMore : Gives → Type 0
+IsMore (handed t d u) = ⊥
+IsMore (more m d l u) = Unit {0}
+IsMore (never w) = ⊥
+
+module _ (ended : Bool) (v z : List ℕ) (over : ended ≡ true → z ≡ []) (few : length (v ++ z) < longestToken) (came : answerCame (length v) (nextToken (v ++ z) startCursor) ≡ true) where
+  asks : (g : Gives) → reading ended blank startCursor false v ≡ g → Tells (v ++ z) startCursor z ended over g → Tells (v ++ []) startCursor [] ended (λ _. refl) g → IsMore g
+  asks (handed t d u) g p q = came-read (length v) t d (sym (ap (answerCame (length v)) (read-same (v ++ z) few t d (p .0))) ∙ came)
+  asks (more m d l u) g p q = tt
+  asks (never w) g p q =
+      let e = came-fault (length v) w (sym (ap (answerCame (length v)) (refused-same (v ++ z) few w p)) ∙ came) in
+      let a = length-append v z in
+      let b = length-append v [] in
+      let k = five-inside (v ++ []) (length v) (refused-same (v ++ []) (omega arith) (fault ForeignByte (length v)) (q ∙ ap refused e)) in
+      omega arith
+
+  pub start-asks : IsMore (reading ended blank startCursor false v)
+  start-asks =
+      asks (reading ended blank startCursor false v) refl (reading-tells (v ++ z) startCursor z ended over blank startCursor false v (stands-start v z))
+      (reading-tells (v ++ []) startCursor [] ended (λ _. refl) blank startCursor false v (stands-start v []))
+
+-- from any cursor
+next-more : (c : Cursor) (g h : Gives) → toNext h ≡ shiftNext c (toNext g) → IsMore g → IsMore h
+unfolding toNext
+next-more c (more m d l u) (handed t e x) q i = let y : _≡_ {A = ℕ} 0 1 = cc in absurd (omega arith)
+next-more c (more m d l u) (more m₁ e l₁ x) q i = tt
+next-more c (more m d l u) (never w) q i = let y : _≡_ {A = ℕ} 0 1 = cc in absurd (omega arith)
+next-more c (handed t d u) h q i = absurd i
+next-more c (never w) h q i = absurd i
+
+-- by where layout stopped
+more-place : (ended : Bool) (m : Mode) (c : Cursor) (l : Bool) (u : List ℕ) (y : Why) → IsMore (given ended (stopped m c l u y)) → Next.More m c l ≡ toNext (given ended (stopped m c l u y))
+unfolding given judged toNext
+more-place ended m c l u Starts i = go (verdict ended l u) i
+  where
+    go : (k : Verdict) → IsMore (judged m c l u k) → Next.More m c l ≡ toNext (judged m c l u k)
+    go (settled (lexeme t e x)) i = absurd i
+    go (settled (refused w)) i = absurd i
+    go tooLong i = absurd i
+    go waiting i = refl
+more-place ended m c l u (Waits w) i = go ended i
+  where
+    go : (t : Bool) → IsMore (cond t (never w) (more m c l u)) → Next.More m c l ≡ toNext (cond t (never w) (more m c l u))
+    go true i = absurd i
+    go false i = refl
+more-place ended m c l u (Stops w) i = absurd i
+
+module _ (s : List ℕ) (c : Cursor) (h : Brief s c) (ended : Bool) (n : ℕ) (i : n ≡ length s - 1) (a : Answer) (e : a ≡ nextToken (text s c h ended) startCursor) (t : Bool) (f : t ≡ answerCame n a) (g : t ≡ true) where
+  brief-asks : IsMore (reading ended blank c false (handOf s))
+  brief-asks =
+      let k : n ≡ length (handOf s) = i ∙ sym (size s c h ended) in
+      let w = ap (λ (x : List ℕ). nextToken x startCursor) (text-of s c h ended ended) in
+      next-more c (reading ended blank startCursor false (handOf s)) (reading ended blank c false (handOf s)) (reading-from-start ended c false (handOf s))
+      (start-asks ended (handOf s) (tail s c h ended ended) (over s c h ended ended) (subst (λ (x : List ℕ). length x < longestToken) (text-of s c h ended ended) (text-few s c h ended ended))
+      (ap (answerCame (length (handOf s))) (sym w ∙ sym e) ∙ ap (λ (j : ℕ). answerCame j a) (sym k) ∙ sym f ∙ g))
+
+  pub brief-more : (p : Place) → placed c (take (n - 0) (drop 0 s)) p ≡ pass blank 0 c false (take (n - 0) (drop 0 s)) → (r : Next) → r ≡ Next.More (p .mode) (p .cursor) (p .layout) → r ≡ toNext (reading ended blank c false (handOf s))
+  brief-more p q r k =
+      let b : take (n - 0) (drop 0 s) ≡ handOf s = (let j : n - 0 ≡ length s - 1 = omega arith in ap (λ (x : ℕ). take x s) j) in
+      let d : pass blank 0 c false (handOf s) ≡ stopped (p .mode) (p .cursor) (p .layout) (drop (p .cursor .offset - c .offset) (handOf s)) (p .why) = sym (subst (λ (u : List ℕ). placed c u p ≡ pass blank 0 c false u) b q) in
+      k ∙ more-place ended (p .mode) (p .cursor) (p .layout) (drop (p .cursor .offset - c .offset) (handOf s)) (p .why) (subst (λ (x : Passed). IsMore (given ended x)) d brief-asks) ∙ sym (ap (λ (x : Passed). toNext (given ended x)) d)
 
 -- ---- what the functions above it ask
 module _ (s : List ℕ) (c : Cursor) where

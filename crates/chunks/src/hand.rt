@@ -151,14 +151,15 @@ fn call_at_start(shown: &[u8], ended: bool) -> Answer
     next_token(shown, start)
 }
 
-// Where the reading does not come to the unknown byte that is all there is to do; else layout and token are read apart.
+// Where the reading does not come to the unknown byte that is all there is to do; else more is wanted, and the layout that is passed need not be kept.
 fn read_at_once(shown: &[u8], cursor: Cursor, ended: bool) -> Next
     requires { ⌜ Brief (now shown) cursor ⌝ }
     ensures { λ r. ⌜ r ≡ toNext (reading ended Blank cursor false (handOf (now (shown .entry)))) ⌝ }
 {
     let answer = call_at_start(shown, ended);
-    if came_to(answer, shown.len() - 1) {
-        return read_apart(shown, Mode::Blank, cursor, false, ended);
+    let n = shown.len() - 1;
+    if came_to(answer, n) {
+        return more(pass_layout(&shown[0..n], Mode::Blank, cursor, false));
     }
     judged(
         settled_by(answer),
