@@ -6,7 +6,7 @@
 #include "thrinvage.h"
 #include <string.h>
 
-enum { LONGEST_TEXT = THRINVAGE_LONGEST_TEXT, LONGEST_TOKEN = THRINVAGE_LONGEST_TOKEN, MOST_AT_HAND = 1027, WINDOW = THRINVAGE_WINDOW, HALF = 1028 };
+enum { LONGEST_TEXT = THRINVAGE_LONGEST_TEXT, LONGEST_TOKEN = THRINVAGE_LONGEST_TOKEN, FULL_HAND = 1022, MOST_AT_HAND = 1027, WINDOW = THRINVAGE_WINDOW, HALF = 1028 };
 enum { MODE, SLASH, OFFSET, LINE, COLUMN, LAYOUT, FROM, TO, PHASE, REFUSAL, REFUSED_AT, TAKEN, FIELDS };
 enum { OPEN, ENDED, REFUSED };
 enum { INSIDE = 2 };
@@ -152,7 +152,7 @@ static size_t lesser(size_t a, size_t b)
 /* Until 1,024 are at hand and, where as many were there already, until 1,027. */
 static size_t due_taken(size_t hand, size_t length)
 {
-    size_t most = hand < LONGEST_TOKEN ? LONGEST_TOKEN : hand < MOST_AT_HAND ? MOST_AT_HAND : hand;
+    size_t most = hand < FULL_HAND ? FULL_HAND : hand < MOST_AT_HAND ? MOST_AT_HAND : hand;
     return lesser(length, most - hand);
 }
 
