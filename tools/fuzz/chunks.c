@@ -149,7 +149,7 @@ static size_t lesser(size_t a, size_t b)
     return a < b ? a : b;
 }
 
-/* Until 1,024 are at hand and, where as many were there already, until 1,027. */
+/* Until 1,022 are at hand and, where as many were there already, until 1,027. */
 static size_t due_taken(size_t hand, size_t length)
 {
     size_t most = hand < FULL_HAND ? FULL_HAND : hand < MOST_AT_HAND ? MOST_AT_HAND : hand;
