@@ -33,19 +33,11 @@ struct left {
 
 /* ---- one call in its places */
 
-static struct slice copy(struct random *random, enum role role, const void *from, size_t size)
-{
-    struct slice slice = new_slice(role, some_place(random), size, (uint8_t)random_next(random));
-    if (size > 0)
-        memcpy(slice.at, from, size);
-    return slice;
-}
-
 static void ask(struct random *random, const struct reader *before, struct left *left)
 {
-    struct slice reader = copy(random, NODES_SLICE, before->fields, sizeof before->fields);
-    struct slice window = copy(random, LENT_SLICE, before->window, sizeof before->window);
-    struct slice chunk = copy(random, TEXT_SLICE, running.bytes, running.length);
+    struct slice reader = copy_of(random, NODES_SLICE, before->fields, sizeof before->fields);
+    struct slice window = copy_of(random, LENT_SLICE, before->window, sizeof before->window);
+    struct slice chunk = copy_of(random, TEXT_SLICE, running.bytes, running.length);
     struct slice token = new_slice(RECORD_SLICE, some_place(random), sizeof left->token, (uint8_t)random_next(random));
     struct slice *all[] = {&reader, &window, &chunk, &token};
     left->fill = (uint8_t)random_next(random);
@@ -284,7 +276,7 @@ static void feed_twice(struct random *random, const struct reader *before, const
 static void ask_without_window(struct random *random, void (*call)(struct thrinvage_reader *), const uint64_t *before, const uint64_t *due)
 {
     for (int more = 2; more > 0; more--) {
-        struct slice reader = copy(random, NODES_SLICE, before, FIELDS * sizeof *before);
+        struct slice reader = copy_of(random, NODES_SLICE, before, FIELDS * sizeof *before);
         call((struct thrinvage_reader *)reader.at);
         must(is_fence_whole(&reader), "something is written beside the reader");
         must(is_same_reader((const uint64_t *)reader.at, due), "finish or start leaves another reader");

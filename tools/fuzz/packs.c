@@ -14,14 +14,6 @@ struct due {
     size_t size;
 };
 
-static struct slice copy(struct random *random, enum role role, const void *from, size_t size)
-{
-    struct slice slice = new_slice(role, some_place(random), size, (uint8_t)random_next(random));
-    if (size > 0)
-        memcpy(slice.at, from, size);
-    return slice;
-}
-
 static struct slice filled(struct random *random, enum role role, size_t size, uint8_t fill)
 {
     struct slice slice = new_slice(role, some_place(random), size, (uint8_t)random_next(random));
@@ -92,8 +84,8 @@ static void ask(struct random *random, const struct due *due)
 {
     uint8_t fill = (uint8_t)random_next(random);
     size_t nodes_size = running.numbers * sizeof(uint32_t);
-    struct slice bytes = copy(random, TEXT_SLICE, running.bytes, running.length);
-    struct slice nodes = copy(random, NODES_SLICE, running.nodes, nodes_size);
+    struct slice bytes = copy_of(random, TEXT_SLICE, running.bytes, running.length);
+    struct slice nodes = copy_of(random, NODES_SLICE, running.nodes, nodes_size);
     struct slice lent = filled(random, LENT_SLICE, running.room * unit(running.call), fill);
     struct slice record = filled(random, RECORD_SLICE, record_size(running.call), fill);
     struct slice *all[] = {&bytes, &nodes, &lent, &record};

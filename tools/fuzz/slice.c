@@ -3,6 +3,7 @@
 #include <sanitizer/asan_interface.h>
 #include <stdio.h>
 #include <stdlib.h>
+#include <string.h>
 #include <sys/mman.h>
 #include <unistd.h>
 
@@ -83,6 +84,14 @@ struct slice new_slice(enum role role, enum place place, size_t size, uint8_t fe
         put_fence(slice.at - FENCE, fence);
     if (has_fence_behind(&slice))
         put_fence(slice.at + size, fence);
+    return slice;
+}
+
+struct slice copy_of(struct random *random, enum role role, const void *from, size_t size)
+{
+    struct slice slice = new_slice(role, some_place(random), size, (uint8_t)random_next(random));
+    if (size > 0)
+        memcpy(slice.at, from, size);
     return slice;
 }
 

@@ -31,6 +31,8 @@ extern int only_place;
 void map_pages(void);
 enum place some_place(struct random *random);
 struct slice new_slice(enum role role, enum place place, size_t size, uint8_t fence);
+/* A slice of these bytes, somewhere. */
+struct slice copy_of(struct random *random, enum role role, const void *from, size_t size);
 bool is_fence_whole(const struct slice *slice);
 void free_slice(struct slice *slice);
 
