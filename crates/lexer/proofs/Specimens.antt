@@ -62,7 +62,8 @@ table =
     ∷ (from 0 "0'''", read 0 4 Number (Integer 39))
     ∷ (from 0 "/*", refused EndOfText 2)
     ∷ (from 0 "/* ", refused UnclosedComment 0)
-    ∷ (from 0 "9223372036854775808 ", refused OutOfLimit 0)
+    ∷ (from 0 "9223372036854775808 ", read 0 19 Number (Integer 9223372036854775808))
+    ∷ (from 0 "9223372036854775809 ", refused OutOfLimit 0)
     -- the readings that a hurried port gets wrong
     ∷ (from 0 "/*/", refused UnclosedComment 0)
     ∷ (from 1 "X=/*c*/Y", read 1 4 Name Nothing)

@@ -27,9 +27,13 @@ digits base v at (x ∷ xs) = cond (isDigit base x) (digits base (v * base + dig
 abbrev pub digitsAt : ℕ → ℕ → List ℕ → ℕ → Digits
 digitsAt base v s at = digits base v at (drop at s)
 
--- one more than the largest integer, 9,223,372,036,854,775,807: the code counts no further
+-- 02, request 4: "an integer token's magnitude may reach 9,223,372,036,854,775,808", that of the lowest integer
+abbrev pub largestMagnitude : ℕ
+largestMagnitude = 9223372036854775808
+
+-- one more: the code counts no further
 abbrev pub beyond : ℕ
-beyond = 9223372036854775808
+beyond = largestMagnitude + 1
 
 -- what the code holds of the digits that it read
 abbrev pub held : Digits → Digits

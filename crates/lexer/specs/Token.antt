@@ -84,7 +84,7 @@ unfoldable pub floated : ℕ → ℕ → Floated → Plain
 floated at e (Floated.Value v) = Whole Number (Value.Float v) e
 floated at e Floated.Beyond = Refused (fault OutOfLimit at)
 
--- 01: integers run to 9,223,372,036,854,775,807
+-- 02, request 4: an integer token's value is its magnitude; 7 "from the next magnitude on"
 unfoldable pub valued : ℕ → ℕ → Numeral → Plain
 valued at e (Numeral.Integer n) = cond (ltb n beyond) (Whole Number (Value.Integer n) e) (Refused (fault OutOfLimit at))
 valued at e (Numeral.Float m sign x f) = floated at e (floatValue m sign x f)

@@ -34,11 +34,14 @@ pub(crate) fn digit(b: u8) -> u64
     16
 }
 
-// One more than the largest integer: no value is counted further.
-pub(crate) const BEYOND: u64 = 9223372036854775808;
+// The largest magnitude of an integer token: that of the lowest integer.
+pub const LARGEST_MAGNITUDE: u64 = 9223372036854775808;
 
-// A sixteenth of it: what is less can take a digit more in any base, and needs no division.
-const NEAR: u64 = 576460752303423488;
+// One more: no value is counted further.
+pub(crate) const BEYOND: u64 = LARGEST_MAGNITUDE + 1;
+
+// A sixteenth of the largest: what is less can take a digit more in any base, and needs no division.
+const NEAR: u64 = LARGEST_MAGNITUDE / 16;
 
 // A digit more.
 fn grown(value: u64, base: u64, d: u64) -> u64

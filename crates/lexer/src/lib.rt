@@ -20,6 +20,7 @@ pub use classes::is_layout;
 pub use cursor::Cursor;
 pub use cursor::is_valid;
 pub use cursor::skip_char;
+pub use digits::LARGEST_MAGNITUDE;
 pub use kind::Kind;
 pub use kind::Value;
 pub use number::number_end;

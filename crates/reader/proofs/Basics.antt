@@ -31,7 +31,7 @@ lt?-true a b e = ltb-true a b e
 pub glues-blocks : (T : Table) (m : Bool) (e : ℕ) (k : Terminal) → glues m e (see T k) ≡ blocks m e k
 unfolding glues see blocks
 glues-blocks T m e (name x f) = refl
-glues-blocks T m e (number s) = refl
+glues-blocks T m e (number s low) = refl
 glues-blocks T m e varOrString = refl
 glues-blocks T m e (round ct) = refl
 glues-blocks T m e square = refl

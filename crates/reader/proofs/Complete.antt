@@ -159,7 +159,7 @@ module _ (word : NodeKind → ℕ → ℕ) (T : Table) where
   unfolding run step push arity
   case-plain {i} {rest} {out} e = reach0 (nd i (word plain 0) ∷ out) (ap (λ (z : State). Run z rest) e) refl
 
-  want-number : (i s : ℕ) (fs : Frames) (out : Out) → wantStep word fs out i (see T (number s)) ≡ have fs (nd i (word plain 0) ∷ out)
+  want-number : (i s : ℕ) (fs : Frames) (out : Out) → wantStep word fs out i (see T (number s false)) ≡ have fs (nd i (word plain 0) ∷ out)
   unfolding wantStep see
   want-number i s fs out = refl
 
@@ -172,20 +172,20 @@ module _ (word : NodeKind → ℕ → ℕ) (T : Table) where
   unfolding run step wantStep see push arity
   case-name {i} {e} {x} {fs} {out} f w = reach0 (nd i (word plain 0) ∷ out) (name-follow i e x fs out f w) refl
 
-  blocks-glued : (m : Bool) (e : ℕ) → m ≡ true → glues m e (see T (number e)) ≡ true
+  blocks-glued : (m low : Bool) (e : ℕ) → m ≡ true → glues m e (see T (number e low)) ≡ true
   unfolding glues see
-  blocks-glued m e h = rw h (eq-eqb e e refl)
+  blocks-glued m low e h = rw h (eq-eqb e e refl)
 
-  pend-glued : (i e j : ℕ) (x : List ℕ) (fs : Frames) (out : Out) → isMinus x ≡ true →
-      pendStep word i e (isMinus x) (prefixOf T x) (infixOf T x) fs out j (see T (number e)) ≡ have fs (nd i (word negative 0) ∷ out)
+  pend-glued : (i e j : ℕ) (low : Bool) (x : List ℕ) (fs : Frames) (out : Out) → isMinus x ≡ true →
+      pendStep word i e (isMinus x) (prefixOf T x) (infixOf T x) fs out j (see T (number e low)) ≡ have fs (nd i (word negative 0) ∷ out)
   unfolding pendStep gluedStep see
-  pend-glued i e j x fs out m = rw (blocks-glued (isMinus x) e m)
+  pend-glued i e j low x fs out m = rw (blocks-glued (isMinus x) low e m)
 
-  case-negative : {i e j : ℕ} {x : List ℕ} {rest : List Tok} {fs : Frames} {out : Out} → isMinus x ≡ true →
-      Reach 0 (tok i (name x e) ∷ tok j (number e) ∷ rest) rest (node i negative nil) fs out
+  case-negative : {i e j : ℕ} {low : Bool} {x : List ℕ} {rest : List Tok} {fs : Frames} {out : Out} → isMinus x ≡ true →
+      Reach 0 (tok i (name x e) ∷ tok j (number e low) ∷ rest) rest (node i negative nil) fs out
   unfolding run step wantStep see push arity
-  case-negative {i} {e} {j} {x} {rest} {fs} {out} m =
-      reach0 (nd i (word negative 0) ∷ out) (ap (λ (z : State). Run z rest) (pend-glued i e j x fs out m)) refl
+  case-negative {i} {e} {j} {low} {x} {rest} {fs} {out} m =
+      reach0 (nd i (word negative 0) ∷ out) (ap (λ (z : State). Run z rest) (pend-glued i e j low x fs out m)) refl
 
   case-call : {i e j : ℕ} {x : List ℕ} {us rest : List Tok} {f : Forest} {fs : Frames} {out : Out} (d : ℕ) → arity f ≡ d + 1 →
       Run (want (opened (inSeq inCall i 0) ∷ fs) out) us ≡ Run (have fs (nd i (word call (d + 1)) ∷ pushes word f out)) rest →

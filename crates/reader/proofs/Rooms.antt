@@ -138,9 +138,9 @@ module _ (st ns : List ℕ) (d n : ℕ) where
     unfolding takes
     takes-name e m p q h = rw h at r
 
-    pub takes-number : (s : ℕ) → k ≡ Number s → Room st ns d n 1
+    pub takes-number : (s : ℕ) (low : Bool) → k ≡ Number s low → Room st ns d n 1
     unfolding takes
-    takes-number s h = rw h at r
+    takes-number s low h = rw h at r
 
     pub takes-var : k ≡ VarOrString → Room st ns d n 1
     unfolding takes

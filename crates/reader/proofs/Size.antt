@@ -93,7 +93,7 @@ module _ (word : NodeKind → ℕ → ℕ) where
   glued-size : (i : ℕ) (fs : Frames) (out : Out) (k : Sight) → weight (gluedStep word i fs out k) ≤ sizes fs + length out + 1
   unfolding gluedStep weight sizes size
   glued-size i fs out (seenName e m r s) = omega arith
-  glued-size i fs out (seenNumber s) = omega arith
+  glued-size i fs out (seenNumber s low) = omega arith
   glued-size i fs out seenVarOrString = omega arith
   glued-size i fs out (seenRound ct) = omega arith
   glued-size i fs out seenSquare = omega arith
@@ -103,7 +103,8 @@ module _ (word : NodeKind → ℕ → ℕ) where
   want-size : (fs : Frames) (out : Out) (i : ℕ) (k : Sight) → weight (wantStep word fs out i k) ≤ sizes fs + length out + 1
   unfolding wantStep weight sizes size
   want-size fs out i (seenName e m r s) = omega arith
-  want-size fs out i (seenNumber s) = omega arith
+  want-size fs out i (seenNumber s true) = omega arith
+  want-size fs out i (seenNumber s false) = omega arith
   want-size fs out i seenVarOrString = omega arith
   want-size fs out i (seenRound ct) = omega arith
   want-size fs out i seenSquare = omega arith
@@ -113,7 +114,7 @@ module _ (word : NodeKind → ℕ → ℕ) where
   have-size : (fs : Frames) (out : Out) (i : ℕ) (k : Sight) → weight (haveStep word fs out i k) ≤ sizes fs + length out + 1
   unfolding haveStep
   have-size fs out i (seenName e m r s) = infix-size i s fs out
-  have-size fs out i (seenNumber s) = dead-le _
+  have-size fs out i (seenNumber s low) = dead-le _
   have-size fs out i seenVarOrString = dead-le _
   have-size fs out i (seenRound ct) = dead-le _
   have-size fs out i seenSquare = dead-le _

@@ -273,7 +273,7 @@ module _ (word : NodeKind → ℕ → ℕ) (T : Table) (source : List Tok) where
       Held fs ts before → Term T 0 ts (tok i k ∷ rest) t → push word t before ≡ out → Inv (haveStep word fs out i (see T k)) rest
   unfolding haveStep see
   haved fair i (name x e) s d q = infixed (infixOf T x) fair refl s d q
-  haved fair i (number n) s d q = iDead
+  haved fair i (number n low) s d q = iDead
   haved fair i varOrString s d q = iDead
   haved fair i (round ct) s d q = iDead
   haved fair i square s d q = iDead
@@ -285,7 +285,8 @@ module _ (word : NodeKind → ℕ → ℕ) (T : Table) (source : List Tok) where
   wanted : {fs : Frames} {rest : List Tok} {out : Out} (i : ℕ) (k : Terminal) → Held fs (tok i k ∷ rest) out → Inv (wantStep word fs out i (see T k)) rest
   unfolding wantStep see push arity
   wanted i (name x e) s = iPend s refl refl refl
-  wanted i (number n) s = iHave s aNumber refl
+  wanted i (number n true) s = iDead
+  wanted i (number n false) s = iHave s aNumber refl
   wanted i varOrString s = iHave s aVarOrString refl
   wanted i (round ct) s = iWant (base (ofRound s))
   wanted i square s = iBegun isSquare s
@@ -295,7 +296,7 @@ module _ (word : NodeKind → ℕ → ℕ) (T : Table) (source : List Tok) where
   stop-of : (k : Terminal) (x : Stop) → stopOf (see T k) ≡ some x → k ≡ stop x
   unfolding stopOf see
   stop-of (name y e) x q = absurd (let z : _≡_ {A = ℕ} 0 1 = cc in omega arith)
-  stop-of (number n) x q = absurd (let z : _≡_ {A = ℕ} 0 1 = cc in omega arith)
+  stop-of (number n low) x q = absurd (let z : _≡_ {A = ℕ} 0 1 = cc in omega arith)
   stop-of varOrString x q = absurd (let z : _≡_ {A = ℕ} 0 1 = cc in omega arith)
   stop-of (round ct) x q = absurd (let z : _≡_ {A = ℕ} 0 1 = cc in omega arith)
   stop-of square x q = absurd (let z : _≡_ {A = ℕ} 0 1 = cc in omega arith)
@@ -336,17 +337,17 @@ module _ (word : NodeKind → ℕ → ℕ) (T : Table) (source : List Tok) where
 
   -- A name stands where an operand is expected.
 
-  negative-term : {i e j s : ℕ} {x : List ℕ} {rest : List Tok} (m : Bool) → isMinus x ≡ m → m && eqb e s ≡ true →
-      Term T 0 (tok i (name x e) ∷ tok j (number s) ∷ rest) rest (node i negative nil)
-  negative-term {i} {e} {j} {s} {x} {rest} true q h =
-      subst (λ (z : ℕ). Term T 0 (tok i (name x e) ∷ tok j (number z) ∷ rest) rest (node i negative nil)) (eqb-true e s h) (aNegative q)
+  negative-term : {i e j s : ℕ} {low : Bool} {x : List ℕ} {rest : List Tok} (m : Bool) → isMinus x ≡ m → m && eqb e s ≡ true →
+      Term T 0 (tok i (name x e) ∷ tok j (number s low) ∷ rest) rest (node i negative nil)
+  negative-term {i} {e} {j} {s} {low} {x} {rest} true q h =
+      subst (λ (z : ℕ). Term T 0 (tok i (name x e) ∷ tok j (number z low) ∷ rest) rest (node i negative nil)) (eqb-true e s h) (aNegative q)
   negative-term false q h = absurd (false≢true h)
 
   glued : {i e j : ℕ} {x : List ℕ} {m : Bool} {fs : Frames} {rest : List Tok} {out : Out} (k : Terminal) → isMinus x ≡ m → blocks m e k ≡ true →
       Held fs (tok i (name x e) ∷ tok j k ∷ rest) out → Inv (gluedStep word i fs out (see T k)) rest
   unfolding gluedStep see blocks push arity
   glued (name y f) q h s = iDead
-  glued {m} (number n) q h s = iHave s (negative-term m q h) refl
+  glued {m} (number n low) q h s = iHave s (negative-term m q h) refl
   glued varOrString q h s = iDead
   glued (round true) q h s = iWant (base (first opensCall s))
   glued (round false) q h s = absurd (false≢true h)

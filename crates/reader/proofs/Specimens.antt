@@ -17,7 +17,7 @@ use Rattle.lexer.specs.Number
 use Rattle.lexer.specs.Quoted.{quoteTo, itemTo, withChar, itemTurn}
 use Rattle.lexer.specs.Token as L
 use Rattle.lexer.specs.declared.cursor.Cursor.{Cursor}
-use Rattle.reader.specs.Token.{Token, terminalAs, terminals, sameText}
+use Rattle.reader.specs.Token.{Token, isLowest, terminalAs, terminals, sameText}
 use Rattle.reader.specs.Ops.{spell, prePrio, preBound, prio, leftBound, rightBound, operators, findPre, findInf, prefixOf, infixOf, roled}
 use Rattle.reader.specs.Tree.{negative, call, prefix, infx, list, listTail, curly, emptyList, emptyCurly, kindNumber, Tree, node, leaf, nil, _◂_, arity}
 use Rattle.reader.specs.Grammar.{Reads}
@@ -72,6 +72,13 @@ table =
     ∷ faulty "a=b=c." 3
     ∷ reads "-1^2." (two 2 (minus 0) (x 3))
     ∷ reads "- 1^2." (one 0 (two 2 (x 1) (x 3)))
+    -- 02, request 4: the lowest integer reads, its magnitude alone is no term
+    ∷ reads "rain(-9223372036854775808)." (node 0 call (minus 2 ◂ nil))
+    ∷ reads "- -9223372036854775808." (one 0 (minus 1))
+    ∷ faulty "9223372036854775808." 0
+    ∷ faulty "- 9223372036854775808." 2
+    ∷ faulty "-(9223372036854775808)." 2
+    ∷ faulty "a -9223372036854775808." 3
     ∷ reads "2** -1." (two 1 (x 0) (minus 2))
     ∷ faulty "2** - 1." 6
     ∷ reads "\\+ - a." (one 0 (one 1 (x 2)))
@@ -181,7 +188,7 @@ each (faulty x n) e = pointed x n (tested deathOf x (died dead n) cc)
 
 -- `unfolding computes` lets the tokens and a run compute
 unfoldable pub computes : Unit {0}
-unfolding classOf walk moveTo digitOf digits after items past commentOpened slashed layoutTextOf layoutTurn front needed runEnd runToken nameToken Number.integerTo Number.pointTo Number.zeroTo quoteTo itemTo withChar itemTurn L.floated L.valued L.numbered L.plainToken L.plainLexeme L.lexemeTo L.afterLayout L.mark L.barTo L.soloTo L.pointTo L.quotedTo L.quotedLexeme gather onward with textIn testOf terminalAs terminals sameText prePrio preBound prio leftBound rightBound findPre findInf prefixOf infixOf roled kindNumber arity push wide Machine.placeOf Machine.bound Machine.actOf Machine.separates Machine.inside Machine.shuts Machine.emptyKind Machine.see Machine.stopOf Machine.glues Machine.lt? Machine.pushAs Machine.emit Machine.reduce Machine.act Machine.actIf Machine.closing Machine.commaStep Machine.stopStep Machine.infixStep Machine.gluedStep Machine.wantStep Machine.haveStep Machine.prefixAs Machine.prefixStep Machine.opStep Machine.pendStep Machine.begunOn Machine.begunStep Machine.step Machine.run latestFrom isDead
+unfolding classOf walk moveTo digitOf digits after items past commentOpened slashed layoutTextOf layoutTurn front needed runEnd runToken nameToken Number.integerTo Number.pointTo Number.zeroTo quoteTo itemTo withChar itemTurn L.floated L.valued L.numbered L.plainToken L.plainLexeme L.lexemeTo L.afterLayout L.mark L.barTo L.soloTo L.pointTo L.quotedTo L.quotedLexeme gather onward with textIn testOf isLowest terminalAs terminals sameText prePrio preBound prio leftBound rightBound findPre findInf prefixOf infixOf roled kindNumber arity push wide Machine.placeOf Machine.bound Machine.actOf Machine.separates Machine.inside Machine.shuts Machine.emptyKind Machine.see Machine.stopOf Machine.glues Machine.lt? Machine.pushAs Machine.emit Machine.reduce Machine.act Machine.actIf Machine.closing Machine.commaStep Machine.stopStep Machine.infixStep Machine.gluedStep Machine.wantStep Machine.haveStep Machine.prefixAs Machine.prefixStep Machine.opStep Machine.pendStep Machine.begunOn Machine.begunStep Machine.step Machine.run latestFrom isDead
 computes = tt
 
 pub specimens : All Holds table

@@ -95,7 +95,7 @@ stop-takes codeStop.Stop.EndMark = omega arith
 pub takes-one : (k : code.Sight) → takes k ≤ 1
 unfolding takes
 takes-one (code.Sight.Name e m p q) = omega arith
-takes-one (code.Sight.Number s) = omega arith
+takes-one (code.Sight.Number s low) = omega arith
 takes-one code.Sight.VarOrString = omega arith
 takes-one (code.Sight.Round ct) = omega arith
 takes-one code.Sight.Square = omega arith

@@ -5,7 +5,7 @@ use mathlib.Core.Bool.{Bool, true, false, cond, false≢true}
 use mathlib.Core.List.{List, [], _∷_, _++_, append-assoc, append-nil}
 use native.Mathlib.Omega.{arith}
 use lib.ListN.{length}
-use Rattle.reader.specs.Token.{Kind, endMark, Variable, OpenCT, Close, CloseList, CloseCurly, End, Token, Stop, stop, Tok, tok, terminalAs, terminals}
+use Rattle.reader.specs.Token.{Kind, endMark, Variable, OpenCT, Close, CloseList, CloseCurly, End, Nothing, Token, Stop, stop, Tok, tok, terminalAs, terminals}
 use Rattle.reader.specs.Ops.{Table, roled}
 use Rattle.reader.specs.Tree.{NodeKind, plain, call, list, listTail, curly, emptyList, emptyCurly, Tree, packed}
 use Rattle.reader.specs.Grammar.{Reads}
@@ -66,7 +66,7 @@ module _ (word : NodeKind → ℕ → ℕ) (T : Table) where
 -- ---- tokens that close them
 
 abbrev plainly : Kind → ℕ → ℕ → Token
-plainly k a e = record { kind = k; text = []; start = a; end = e }
+plainly k a e = record { kind = k; value = Nothing; text = []; start = a; end = e }
 
 -- a token behind layout, from z on
 abbrev apart : Kind → ℕ → Token

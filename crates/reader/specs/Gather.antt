@@ -17,7 +17,7 @@ use Rattle.lexer.specs.declared.refusal.Fault.{Fault}
 use Rattle.lexer.specs.declared.refusal.Refusal.the-variants.{NoRoom, TooManyTokens, NoReading}
 use Rattle.lexer.specs.declared.token.Token as lexer
 use Rattle.lexer.specs.declared.token.Answer.{Answer}
-use Rattle.reader.specs.Token.{Name, End, Token, terminalAs, terminals}
+use Rattle.reader.specs.Token.{Name, Token, noToken, terminalAs, terminals}
 use Rattle.reader.specs.Ops.{operators}
 use Rattle.reader.specs.Tree.{packed}
 use Rattle.reader.specs.Machine as M
@@ -37,7 +37,7 @@ use Rattle.reader.specs.declared.clause.ClauseAnswer.the-variants.{Read,
 -- the clause's token that was read at an offset (what stands for a refusal is never asked for)
 unfoldable pub tokenOf : List ℕ → Lexeme → Token
 tokenOf s (lexeme t e x) = tokenIn s t e x
-tokenOf s (refused w) = record { kind = End; text = []; start = 0; end = 0 }
+tokenOf s (refused w) = noToken
 
 abbrev pub tokenFrom : List ℕ → Cursor → Token
 tokenFrom s c = tokenOf s (readLexeme false s (c .offset))

@@ -14,7 +14,7 @@ use Rattle.reader.specs.Tree.{negative, call, prefix, infx, list, listTa
 -- Is it the minus, where it ends, the next token.
 unfoldable pub blocks : Bool → ℕ → Terminal → Bool
 blocks minus e (name x f) = false
-blocks minus e (number s) = minus && eqb e s
+blocks minus e (number s low) = minus && eqb e s
 blocks minus e varOrString = false
 blocks minus e (round ct) = ct
 blocks minus e square = false
@@ -25,7 +25,8 @@ module _ (T : Table) where
   mutual
     pub data Term : ℕ → List Tok → List Tok → Tree → Type 0 where
       -- 6.3.1.1, 6.3.2, 6.3.7: "number, string, variable"
-      aNumber : {i s : ℕ} {rest : List Tok} → Term 0 (tok i (number s) ∷ rest) rest (leaf i)
+      -- 02, request 4: "a plain number token of that magnitude is no term"
+      aNumber : {i s : ℕ} {rest : List Tok} → Term 0 (tok i (number s false) ∷ rest) rest (leaf i)
       aVarOrString : {i : ℕ} {rest : List Tok} → Term 0 (tok i varOrString ∷ rest) rest (leaf i)
       -- 6.3.1.3: "name that is no operator"
       aName : {i e : ℕ} {x : List ℕ} {rest : List Tok} → isOp T x ≡ false → Term 0 (tok i (name x e) ∷ rest) rest (leaf i)
@@ -48,8 +49,8 @@ module _ (T : Table) where
       anEmptyList : {i k : ℕ} {rest : List Tok} → Term 0 (tok i square ∷ tok k (stop closeList) ∷ rest) rest (node i emptyList nil)
       anEmptyCurly : {i k : ℕ} {rest : List Tok} → Term 0 (tok i brace ∷ tok k (stop closeCurly) ∷ rest) rest (node i emptyCurly nil)
       -- 6.3.1.2: "`-` with a number whose span begins where the minus ends"
-      aNegative : {i e j : ℕ} {x : List ℕ} {rest : List Tok} →
-          isMinus x ≡ true → Term 0 (tok i (name x e) ∷ tok j (number e) ∷ rest) rest (node i negative nil)
+      aNegative : {i e j : ℕ} {low : Bool} {x : List ℕ} {rest : List Tok} →
+          isMinus x ≡ true → Term 0 (tok i (name x e) ∷ tok j (number e low) ∷ rest) rest (node i negative nil)
       -- 6.3.4.2: a prefix operator and its operand
       aPrefix : {i e j p q : ℕ} {x : List ℕ} {r : Pre} {k : Terminal} {us rest : List Tok} {t : Tree} →
           prefixOf T x ≡ some r → prePrio r ≡ p → blocks (isMinus x) e k ≡ false → Term q (tok j k ∷ us) rest t → q < preBound r →

@@ -136,7 +136,7 @@ haltOf (Stopped x) = some (stopAs x)
 
 unfoldable pub sightOf : Sight → M.Sight
 sightOf (Name e m p q) = seenName e m (preOf p) (infOf q)
-sightOf (Number s) = seenNumber s
+sightOf (Number s low) = seenNumber s low
 sightOf VarOrString = seenVarOrString
 sightOf (Round ct) = seenRound ct
 sightOf Square = seenSquare
@@ -195,7 +195,7 @@ stopTakes EndMark = 0
 
 unfoldable pub takes : Sight → ℕ
 takes (Name e m p q) = 1
-takes (Number s) = 1
+takes (Number s low) = 1
 takes VarOrString = 1
 takes (Round ct) = 1
 takes Square = 1

@@ -10,7 +10,7 @@ use lib.Seq.{sets}
 use Rattle.lexer.specs.Chars.{singleQuote, openParen, closeParen, comma, openBracket, closeBracket, openBrace, bar, closeBrace}
 use Rattle.lexer.specs.Cursor.{part, longest}
 use Rattle.lexer.specs.Token.{isComma}
-use Rattle.reader.specs.Token.{End, Token}
+use Rattle.reader.specs.Token.{Token, noToken}
 use Rattle.reader.specs.Tree.{NodeKind, plain, negative, call, prefix, infx, list, listTail, curly, emptyList, emptyCurly, kindNumber, Tree, node, Forest, nil, _◂_, arity, numbers, numbersAll}
 use Rattle.reader.specs.declared.listing.Shape.{Shape}
 use Rattle.reader.specs.declared.listing.Shape.the-variants.{Word, Negative, Call, Square, Tail, Curly}
@@ -86,7 +86,7 @@ module _ (word : ℕ → ℕ → List ℕ) where
 
 -- the token of the index; of an index that is none, one with no bytes
 abbrev pub tokenAt : List Token → ℕ → Token
-tokenAt ts i = getD ts i (record { kind = End; text = []; start = 0; end = 0 })
+tokenAt ts i = getD ts i noToken
 
 -- the Comma in quotes; any other as the source has it, from the start of the token i to the end of the token j
 unfoldable pub spelled : List ℕ → List Token → ℕ → ℕ → List ℕ

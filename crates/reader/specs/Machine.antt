@@ -151,10 +151,11 @@ emptyKind braces = emptyCurly
 abbrev pub aboveAll : ℕ
 aboveAll = 1201
 
--- What the machine sees of a token. A name: where it ends, is it the minus, its roles. A number: where it begins. A round bracket: is it OpenCT.
+-- What the machine sees of a token. A name: where it ends, is it the minus, its roles. A number: where it begins, and has it the lowest integer's magnitude. A round
+-- bracket: is it OpenCT.
 pub data Sight : Type 0 where
   seenName : ℕ → Bool → Option Pre → Option Inf → Sight
-  seenNumber : ℕ → Sight
+  seenNumber : ℕ → Bool → Sight
   seenVarOrString : Sight
   seenRound : Bool → Sight
   seenSquare seenBrace : Sight
@@ -162,7 +163,7 @@ pub data Sight : Type 0 where
 
 unfoldable pub see : Table → Terminal → Sight
 see T (name x e) = seenName e (isMinus x) (prefixOf T x) (infixOf T x)
-see T (number s) = seenNumber s
+see T (number s low) = seenNumber s low
 see T varOrString = seenVarOrString
 see T (round ct) = seenRound ct
 see T square = seenSquare
@@ -171,7 +172,7 @@ see T (stop x) = seenStop x
 
 unfoldable pub stopOf : Sight → Option Stop
 stopOf (seenName e m r s) = none
-stopOf (seenNumber s) = none
+stopOf (seenNumber s low) = none
 stopOf seenVarOrString = none
 stopOf (seenRound ct) = none
 stopOf seenSquare = none
@@ -181,7 +182,7 @@ stopOf (seenStop x) = some x
 -- the grammar's `blocks`, of what is seen: is it the minus, where it ends, the next token
 unfoldable pub glues : Bool → ℕ → Sight → Bool
 glues minus e (seenName f m r s) = false
-glues minus e (seenNumber s) = minus && eqb e s
+glues minus e (seenNumber s low) = minus && eqb e s
 glues minus e seenVarOrString = false
 glues minus e (seenRound ct) = ct
 glues minus e seenSquare = false
@@ -254,7 +255,7 @@ module _ (word : NodeKind → ℕ → ℕ) where
   -- after a name that an OpenCT or a glued number follows: a call, or a negative number
   unfoldable pub gluedStep : ℕ → Frames → Out → Sight → State
   gluedStep i fs out (seenName e m r s) = dead
-  gluedStep i fs out (seenNumber s) = have fs (nd i (word negative 0) ∷ out)
+  gluedStep i fs out (seenNumber s low) = have fs (nd i (word negative 0) ∷ out)
   gluedStep i fs out seenVarOrString = dead
   gluedStep i fs out (seenRound ct) = want (opened (inSeq inCall i 0) ∷ fs) out
   gluedStep i fs out seenSquare = dead
@@ -263,7 +264,7 @@ module _ (word : NodeKind → ℕ → ℕ) where
 
   unfoldable pub wantStep : Frames → Out → ℕ → Sight → State
   wantStep fs out i (seenName e m r s) = pend i e m r s fs out
-  wantStep fs out i (seenNumber s) = have fs (nd i (word plain 0) ∷ out)
+  wantStep fs out i (seenNumber s low) = cond low dead (have fs (nd i (word plain 0) ∷ out))
   wantStep fs out i seenVarOrString = have fs (nd i (word plain 0) ∷ out)
   wantStep fs out i (seenRound ct) = want (opened inRound ∷ fs) out
   wantStep fs out i seenSquare = begun squares i fs out
@@ -272,7 +273,7 @@ module _ (word : NodeKind → ℕ → ℕ) where
 
   unfoldable pub haveStep : Frames → Out → ℕ → Sight → State
   haveStep fs out i (seenName e m r s) = infixStep i s fs out
-  haveStep fs out i (seenNumber s) = dead
+  haveStep fs out i (seenNumber s low) = dead
   haveStep fs out i seenVarOrString = dead
   haveStep fs out i (seenRound ct) = dead
   haveStep fs out i seenSquare = dead

@@ -3,24 +3,38 @@ use Prim.Native.Nat.{ℕ, _+_}
 use mathlib.Core.Bool.{Bool, true, false, _&&_}
 use mathlib.Core.List.{List, [], _∷_}
 use lib.Dec.{eqb}
+use Rattle.lexer.specs.Digits.{largestMagnitude}
 pub use Rattle.lexer.specs.declared.kind.Kind.{Kind}
+pub use Rattle.lexer.specs.declared.kind.Value.{Value}
+pub use Rattle.lexer.specs.declared.kind.Value.the-variants.{Integer, Float, Nothing}
 pub use Rattle.lexer.specs.declared.kind.Kind.the-variants.{Name, Variable, String, Number, Open, OpenCT, Close, OpenList, CloseList, OpenCurly, CloseCurly, HeadTailSeparator, DoubleBar, Comma, End}
 
--- A token: its kind, its decoded text (only a name's counts), and its span.
+-- A token: its kind, its value (only a number's counts), its decoded text (only a name's counts), and its span.
 pub record Token : Type 0 where
   pub kind : Kind
+  pub value : Value
   pub text : List ℕ
   pub start : ℕ
   pub end : ℕ
+
+-- what stands where there is no token
+abbrev pub noToken : Token
+noToken = record { kind = End; value = Nothing; text = []; start = 0; end = 0 }
 
 -- What neither starts a term nor is a name.
 pub data Stop : Type 0 where
   close closeList closeCurly bar doubleBar comma endMark : Stop
 
--- What the grammar sees. name: its text, and where it ends. number: where it begins. round: is it OpenCT.
+-- 02, request 4: the magnitude of the lowest integer: "that one value stands only as the second half of a negative number"
+unfoldable pub isLowest : Value → Bool
+isLowest (Integer n) = eqb n largestMagnitude
+isLowest (Float x) = false
+isLowest Nothing = false
+
+-- What the grammar sees. name: its text, and where it ends. number: where it begins, and has it the lowest integer's magnitude. round: is it OpenCT.
 pub data Terminal : Type 0 where
   name : List ℕ → ℕ → Terminal
-  number : ℕ → Terminal
+  number : ℕ → Bool → Terminal
   varOrString : Terminal
   round : Bool → Terminal
   square brace : Terminal
@@ -28,7 +42,7 @@ pub data Terminal : Type 0 where
 
 unfoldable pub terminalAs : Kind → Token → Terminal
 terminalAs Name t = name (t .text) (t .end)
-terminalAs Number t = number (t .start)
+terminalAs Number t = number (t .start) (isLowest (t .value))
 terminalAs Variable t = varOrString
 terminalAs String t = varOrString
 terminalAs Open t = round false

@@ -12,9 +12,11 @@ use lexer::Answer;
 use lexer::Cursor;
 use lexer::Fault;
 use lexer::Kind;
+use lexer::LARGEST_MAGNITUDE;
 use lexer::QuotedAnswer;
 use lexer::Refusal;
 use lexer::Token;
+use lexer::Value;
 use lexer::is_valid;
 use lexer::next_token;
 use lexer::quoted_text;
@@ -25,6 +27,7 @@ ghost use lib.ListN.{length};
 ghost use Rattle.lexer.specs.Cursor.{valid};
 ghost use Rattle.lexer.specs.Refusal.{fault};
 ghost use Rattle.lexer.specs.declared.refusal.Refusal.the-variants.{NoReading};
+ghost use Rattle.reader.specs.Token.{isLowest};
 ghost use Rattle.reader.specs.Ops.{operators};
 ghost use Rattle.reader.specs.Roles.{rolesOf};
 ghost use Rattle.reader.specs.Machine as M;
@@ -82,17 +85,32 @@ fn see_name(text: &[u8], c: Cursor, token: Token, next: Cursor) -> Sight
     }
 }
 
+// Has it the magnitude of the lowest integer, which stands only behind its minus?
+fn is_lowest(value: Value) -> bool
+    ensures { λ r. ⌜ r ≡ isLowest value ⌝ }
+{
+    match value {
+        Value::Integer(n) => n == LARGEST_MAGNITUDE,
+        Value::Float(_) => false,
+        Value::Nothing => false,
+    }
+}
+
 // What the machine sees of the token that was read at the cursor.
 fn see_token(text: &[u8], c: Cursor, token: Token, next: Cursor) -> Sight
     requires { ⌜ ReadFrom (now text) c token next ⌝ }
     ensures { λ r. ⌜ sightOf r ≡ sightFrom (now (text .entry)) c ⌝ }
 {
     let kind = token.kind;
+    let value = token.value;
     match kind {
         Kind::Name => see_name(text, c, token, next),
         Kind::Variable => Sight::VarOrString,
         Kind::String => Sight::VarOrString,
-        Kind::Number => Sight::Number { start: token.start },
+        Kind::Number => Sight::Number {
+            start: token.start,
+            lowest: is_lowest(value),
+        },
         Kind::Open => Sight::Round(false),
         Kind::OpenCT => Sight::Round(true),
         Kind::Close => Sight::Stop(Stop::Close),

@@ -31,7 +31,7 @@ pub enum Stop {
     EndMark,
 }
 
-// What is seen of a token. Round: is it OpenCT.
+// What is seen of a token. Number: has it the lowest integer's magnitude. Round: is it OpenCT.
 pub enum Sight {
     Name {
         end: usize,
@@ -41,6 +41,7 @@ pub enum Sight {
     },
     Number {
         start: usize,
+        lowest: bool,
     },
     VarOrString,
     Round(bool),
@@ -491,7 +492,10 @@ fn have_step(s: Spot, i: u16, k: Sight, frames: &mut [u64], nodes: &mut [u32]) -
             pre: _,
             inf,
         } => infix_step(s, i, inf, frames, nodes),
-        Sight::Number { start: _ } => Mode::Dead,
+        Sight::Number {
+            start: _,
+            lowest: _,
+        } => Mode::Dead,
         Sight::VarOrString => Mode::Dead,
         Sight::Round(_) => Mode::Dead,
         Sight::Square => Mode::Dead,
@@ -521,7 +525,13 @@ fn want_step(s: Spot, i: u16, k: Sight, frames: &mut [u64], nodes: &mut [u32]) -
                 inf,
             },
         ),
-        Sight::Number { start: _ } => have_node(s, i, PLAIN_NODE, frames, nodes),
+        Sight::Number { start: _, lowest } => {
+            if lowest {
+                Mode::Dead
+            } else {
+                have_node(s, i, PLAIN_NODE, frames, nodes)
+            }
+        }
         Sight::VarOrString => have_node(s, i, PLAIN_NODE, frames, nodes),
         Sight::Round(_) => want_in(s, ROUND, 0, 0, frames, nodes),
         Sight::Square => Mode::Begun(s, Shape::Squares, i),
@@ -541,7 +551,7 @@ fn glued(minus: bool, end: usize, k: Sight) -> bool
             pre: _,
             inf: _,
         } => false,
-        Sight::Number { start } => {
+        Sight::Number { start, lowest: _ } => {
             if minus {
                 return end == start;
             }
@@ -567,7 +577,10 @@ fn glued_step(s: Spot, i: u16, k: Sight, frames: &mut [u64], nodes: &mut [u32]) 
             pre: _,
             inf: _,
         } => Mode::Dead,
-        Sight::Number { start: _ } => have_node(s, i, NEGATIVE_NODE, frames, nodes),
+        Sight::Number {
+            start: _,
+            lowest: _,
+        } => have_node(s, i, NEGATIVE_NODE, frames, nodes),
         Sight::VarOrString => Mode::Dead,
         Sight::Round(_) => want_in(s, CALL, i, 0, frames, nodes),
         Sight::Square => Mode::Dead,
@@ -655,7 +668,10 @@ fn halting(k: Sight) -> Halt
             pre: _,
             inf: _,
         } => Halt::Goes,
-        Sight::Number { start: _ } => Halt::Goes,
+        Sight::Number {
+            start: _,
+            lowest: _,
+        } => Halt::Goes,
         Sight::VarOrString => Halt::Goes,
         Sight::Round(_) => Halt::Goes,
         Sight::Square => Halt::Goes,

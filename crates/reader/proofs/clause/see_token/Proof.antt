@@ -1,7 +1,7 @@
 -- `reader::clause::see_token` meets its contract: one law for each kind of token. Assumes nothing.
 use Prim.Native.Nat.{ℕ}
-use mathlib.Core.Path.{_≡_}
-use mathlib.Core.Bool.{true, false}
+use mathlib.Core.Path.{_≡_, _∙_, ap}
+use mathlib.Core.Bool.{Bool, true, false}
 use mathlib.Core.List.{List}
 use borrow.Author.Needs.{needs}
 use Rattle.lexer.specs.declared.cursor.Cursor.{Cursor}
@@ -34,9 +34,9 @@ module _ (s : List ℕ) (c : Cursor) (t : lexer.Token) (d : Cursor) (r : ReadFro
   unfolding sightOf see terminalAs
   string = seen R.String
 
-  number : t .kind ≡ R.Number → sightOf (Number (t .start)) ≡ sightFrom s c
+  number : (low : Bool) → t .kind ≡ R.Number → low ≡ R.isLowest (t .value) → sightOf (Number (t .start) low) ≡ sightFrom s c
   unfolding sightOf see terminalAs
-  number = seen R.Number
+  number low k e = ap (λ (l : Bool). sightOf (Number (t .start) l)) e ∙ seen R.Number k
 
   round : t .kind ≡ R.Open → sightOf (Round false) ≡ sightFrom s c
   unfolding sightOf see terminalAs
@@ -100,6 +100,9 @@ enum-told-3 c = search ways
 
 enum-told-4 : tie.Need-enum-told-4
 enum-told-4 c = search ways
+
+is-lowest-requires : tie.Need-is-lowest-requires
+is-lowest-requires c κs = search ways
 
 enum-told-5 : tie.Need-enum-told-5
 enum-told-5 c = search ways
@@ -188,6 +191,7 @@ see-token-spec =
     enum-told-2
     enum-told-3
     enum-told-4
+    is-lowest-requires
     enum-told-5
     enum-told-6
     enum-told-7

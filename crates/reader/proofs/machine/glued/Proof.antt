@@ -15,13 +15,13 @@ use Rattle.reader.proofs.machine.glued.Statement.{statement}
 use Rattle.reader.proofs.machine.glued.Tie as tie
 
 module _ (m : Bool) (e : ℕ) (k : Sight) where
-  numbered : (s : ℕ) → k ≡ Number s → m ≡ true → eqb e s ≡ glues m e (sightOf k)
+  numbered : (s : ℕ) (low : Bool) → k ≡ Number s low → m ≡ true → eqb e s ≡ glues m e (sightOf k)
   unfolding glues sightOf
-  numbered s f g = cc
+  numbered s low f g = cc
 
-  apart : (s : ℕ) → k ≡ Number s → m ≡ false → false ≡ glues m e (sightOf k)
+  apart : (s : ℕ) (low : Bool) → k ≡ Number s low → m ≡ false → false ≡ glues m e (sightOf k)
   unfolding glues sightOf
-  apart s f g = cc
+  apart s low f g = cc
 
   opens : (ct : Bool) → k ≡ Round ct → ct ≡ glues m e (sightOf k)
   unfolding glues sightOf

@@ -19,9 +19,9 @@ use Rattle.reader.proofs.machine.glued_step.Tie as tie
 
 module _ (i : ℕ) (k : Sight) (fs : Frames) (out : Out) where
   module _ (z : State) where
-    number : (n : ℕ) → k ≡ Number n → z ≡ have fs (nd i negativeNode ∷ out) → z ≡ gluedStep packed i fs out (sightOf k)
+    number : (n : ℕ) (low : Bool) → k ≡ Number n low → z ≡ have fs (nd i negativeNode ∷ out) → z ≡ gluedStep packed i fs out (sightOf k)
     unfolding gluedStep sightOf packed kindNumber
-    number n g f = cc
+    number n low g f = cc
 
     round : (ct : Bool) → k ≡ Round ct → z ≡ want (frameAs callTag i 0 0 ∷ fs) out → z ≡ gluedStep packed i fs out (sightOf k)
     unfolding gluedStep sightOf frameAs bracketAs

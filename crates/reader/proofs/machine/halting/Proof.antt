@@ -19,9 +19,9 @@ module _ (k : Sight) where
   unfolding haltOf stopOf sightOf
   at-name e m p q f = cc
 
-  at-number : (s : ℕ) → k ≡ Number s → haltOf Goes ≡ stopOf (sightOf k)
+  at-number : (s : ℕ) (low : Bool) → k ≡ Number s low → haltOf Goes ≡ stopOf (sightOf k)
   unfolding haltOf stopOf sightOf
-  at-number s f = cc
+  at-number s low f = cc
 
   at-var : k ≡ VarOrString → haltOf Goes ≡ stopOf (sightOf k)
   unfolding haltOf stopOf sightOf

@@ -27,9 +27,9 @@ module _ (i : ℕ) (k : Sight) (fs : Frames) (out : Out) where
   stopped x z g f = cc
 
   module _ (st ns : List ℕ) where
-    no-number : (s : ℕ) → k ≡ Number s → stateOf Dead st ns ≡ haveStep packed fs out i (sightOf k)
+    no-number : (s : ℕ) (low : Bool) → k ≡ Number s low → stateOf Dead st ns ≡ haveStep packed fs out i (sightOf k)
     unfolding stateOf haveStep sightOf
-    no-number s g = cc
+    no-number s low g = cc
 
     no-var : k ≡ VarOrString → stateOf Dead st ns ≡ haveStep packed fs out i (sightOf k)
     unfolding stateOf haveStep sightOf
