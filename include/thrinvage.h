@@ -77,11 +77,13 @@ enum thrinvage_refusal {
     THRINVAGE_UNKNOWN_VERSION = 18  /* an image's first byte is no version that this function knows; at 0 */
 };
 
-/* The limits of refusal 7: an integer is at most 9,223,372,036,854,775,807; the code of an escape is 1 to 127; the digits of a float, read as one
+/* The limits of refusal 7: an integer is at most 9,223,372,036,854,775,808; the code of an escape is 1 to 127; the digits of a float, read as one
  * integer without the point, are at most 9,007,199,254,740,992, to be multiplied by ten to the power of -22 to 22.
  * A cursor is valid for refusal 8 if its offset is at most the text's length, and its line and its column are at most its offset.
  * The clauses of refusal 11 are those of the grammar, however long, and the end mark is a token too, so one of the tokens cannot stand: `x y.` is refused
- * at its `y`, `f(a.` at the dot. All is read up to the end mark first: 1 to 7 of a token behind that place, and 10, come before 11.
+ * at its `y`, `f(a.` at the dot. All is read up to the end mark first: 1 to 7 of a token behind that place, and 10, come before 11. An integer of
+ * 9,223,372,036,854,775,808 stands in a clause only as the second half of a negative number: `-9223372036854775808.` is read, and `9223372036854775808.`
+ * refused.
  *
  * The line of an offset is the count of newlines (byte 10) before it, and its column the count of bytes between the last of them, or the text's start,
  * and the offset; editors count both from 1. examples/c/read.c prints them, and the line with a caret below the byte. */
@@ -107,10 +109,12 @@ enum thrinvage_kind {
     THRINVAGE_END = 14 /* the end mark, with a newline right behind it; a return (byte 13) there is left, and the newline behind that */
 };
 
-/* A token's field `value_kind`. */
+/* A token's field `value_kind`. A token has no sign: a tree's negative number has it, and the value of the number behind its minus is the magnitude.
+ * The lowest integer's is one more than an int64_t holds, so `-(int64_t)value` overflows. This does not: `value == 0 ? 0 : -1 - (int64_t)(value - 1)`.
+ * An integer that is no part of a negative number fits in an int64_t, in any clause that was read. */
 enum thrinvage_value_kind {
     THRINVAGE_NOTHING = 0, /* `value` is 0 */
-    THRINVAGE_INTEGER = 1, /* `value` is the integer, at most 9,223,372,036,854,775,807 */
+    THRINVAGE_INTEGER = 1, /* `value` is the integer, at most 9,223,372,036,854,775,808 */
     THRINVAGE_FLOAT = 2    /* `value` has the bits of the double (IEEE 754 binary64) */
 };
 
@@ -124,7 +128,7 @@ enum thrinvage_part {
  * four numbers. */
 enum thrinvage_node {
     THRINVAGE_PLAIN = 0,       /* a token by itself: number, string, variable or name */
-    THRINVAGE_NEGATIVE = 1,    /* a negative number; the index is its minus */
+    THRINVAGE_NEGATIVE = 1,    /* a negative number; the index is its minus, and the number is the next token */
     THRINVAGE_CALL = 2,        /* name(..) */
     THRINVAGE_PREFIX = 3,      /* a prefix operator applied */
     THRINVAGE_INFIX = 4,       /* an infix operator applied */

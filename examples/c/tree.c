@@ -68,13 +68,16 @@ static void find_first(struct clause *clause, size_t nodes) {
 
 static void print_bytes(const struct piece *piece) { fwrite(piece->bytes, 1, piece->length, stdout); }
 
-static void print_value(const char *sign, const struct thrinvage_token *token) {
+/* A value is a magnitude, and that of the lowest integer is one more than an int64_t holds. */
+static int64_t negated(uint64_t value) { return value == 0 ? 0 : -1 - (int64_t)(value - 1); }
+
+static void print_value(int is_negative, const struct thrinvage_token *token) {
     double x;
     if (token->value_kind == THRINVAGE_INTEGER)
-        printf(" = %s%" PRIu64, sign, token->value);
+        printf(" = %" PRId64, is_negative ? negated(token->value) : (int64_t)token->value);
     if (token->value_kind == THRINVAGE_FLOAT) {
         memcpy(&x, &token->value, sizeof x); /* the value has the bits of the double */
-        printf(" = %s%f", sign, x);
+        printf(" = %f", is_negative ? -x : x);
     }
 }
 
@@ -87,10 +90,10 @@ static void print_line(const struct clause *clause, size_t node, int depth) {
         print_bytes(piece);
     }
     if (kind == THRINVAGE_PLAIN)
-        print_value("", &piece->token);
+        print_value(0, &piece->token);
     if (kind == THRINVAGE_NEGATIVE) { /* the number's token is the one behind the minus */
         print_bytes(piece + 1);
-        print_value("-", &piece[1].token);
+        print_value(1, &piece[1].token);
     }
     putchar('\n');
 }

@@ -69,11 +69,13 @@ fn build(tree: &[u16]) -> Option<Node> {
     nodes.pop()
 }
 
-fn shown_value(sign: &str, value: Value) -> String {
+fn shown_value(is_negative: bool, value: Value) -> String {
     match value {
         Value::Nothing => String::new(),
-        Value::Integer(n) => format!(" = {sign}{n}"),
-        Value::Float(x) => format!(" = {sign}{x:.6}"),
+        // not -(n as i64), which overflows where n is the lowest integer's magnitude
+        Value::Integer(n) if is_negative => format!(" = {}", 0_i64.wrapping_sub_unsigned(n)),
+        Value::Integer(n) => format!(" = {n}"),
+        Value::Float(x) => format!(" = {:.6}", if is_negative { -x } else { x }),
     }
 }
 
@@ -95,11 +97,11 @@ fn print_line(out: &mut impl Write, pieces: &[Piece], node: &Node, depth: usize)
         out.write_all(bytes)?;
     }
     match node.kind {
-        PLAIN => writeln!(out, "{}", shown_value("", token.value)),
+        PLAIN => writeln!(out, "{}", shown_value(false, token.value)),
         NEGATIVE => {
             let number = &pieces[node.index + 1]; // behind the minus
             out.write_all(&number.bytes)?;
-            writeln!(out, "{}", shown_value("-", number.token.value))
+            writeln!(out, "{}", shown_value(true, number.token.value))
         }
         _ => writeln!(out),
     }

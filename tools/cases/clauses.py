@@ -1,6 +1,6 @@
 """Clauses that a script makes: each operator in each role, the limits of 1,024 tokens, deep and wide ones, rooms, faults. Their answers are those of
 grammar.py, the plain reader of document 01; by-hand.txt holds the clauses whose answers a person wrote."""
-from grammar import INFIX_OPERATORS, MOST_TOKENS, NO_READING, PREFIX_OPERATORS, read_clause
+from grammar import INFIX_OPERATORS, LOWEST, MOST_TOKENS, NO_READING, PREFIX_OPERATORS, read_clause
 
 OPERATORS = sorted(set(INFIX_OPERATORS) | set(PREFIX_OPERATORS))
 # a room with a little more than the tree takes
@@ -55,6 +55,7 @@ def operator_faults():
         yield from (f"f(a,{name} b).", f"[a|b {name} c,d].", f"{{a {name} }}.", f"({name} |a).", f"{{{name} ,a}}.", f"X {name} ).", f"{name}().")
         yield from (f"{name} {name} {name} .", f"a {name} {name} {name} b.", f"- {name} b c.", f"a ** {name} b.", f"a = b {name} c = d {name} .")
         yield f"a :- b {name} c :- d."
+        yield from (f"{name} {LOWEST}.", f"{name}{LOWEST}.", f"a {name}{LOWEST}.", f"a {name} -{LOWEST} {name} {LOWEST}.")
 
 
 def long_faults():

@@ -6,7 +6,7 @@ from probe import ROOT
 
 # each is cut at every place
 SMALL = (b"/* c */a.", b"/**/(", b"a */ b", b"*/ ", b"/ * ", b"/*/ ", b"0x1.0e+ ", b"1.0e+5 ", b"1.0E-x", b"'a''b' ", b'"a\\x41\\b"', b"'a\\\nb'.", b"a.\nb. ", b"a.\r\n(", b".%\n(", b"0''' ", b"0''x", b"0'\\n ",
-         b"% c\nx.", b"a||b|c", b"f( (X", b"9223372036854775808 ", b"1_0", b"a\x01", b"`", b"'a\n'", b"/*\x80*/")
+         b"% c\nx.", b"a||b|c", b"f( (X", b"9223372036854775808 ", b"9223372036854775809 ", b"1_0", b"a\x01", b"`", b"'a\n'", b"/*\x80*/")
 # smallest texts at the border of 1,024 bytes, on both sides: what stands before the bytes that make the length, such a byte, and what stands behind them
 EDGES = (
     (b"", b"a", b" "), (b"", b"a", b""), (b"", b"a", b"\1"), (b"", b"A", b"("), (b"", b"+", b" "), (b"'", b"a", b"' "), (b"'", b"a", b"\n"), (b'"', b"a", b'"'), (b"'", b"a", b"\\q"), (b"'\\200\\", b"a", b"'."),

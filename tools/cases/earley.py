@@ -1,8 +1,9 @@
 """Document 01's clause grammar as productions, written from its text, and Earley's recognizer over them: it says which tokens a clause can begin
 with, and needs no guess at how the clause goes on. It takes tokens and operator table from grammar.py, and nothing of its reader.
 What 01 says of a token and the one before it is put into the symbols, so that the productions are free of context: a number is joined or apart, and
-a term may have to begin without what a prefix operator is not applied to."""
-from grammar import COMMA, INFIX_OPERATORS, PREFIX_OPERATORS
+a term may have to begin without what a prefix operator is not applied to. One of the lowest integer's magnitude is neither: if it is joined, it is
+only what a minus before it can negate."""
+from grammar import COMMA, INFIX_OPERATORS, PREFIX_OPERATORS, is_lowest
 
 # the greatest priority of a clause and what is in brackets, and of an argument, an item or a tail
 WHOLE, PART = 1200, 999
@@ -14,7 +15,8 @@ ANY, UNBRACKETED, UNJOINED = "any", "unbracketed", "unjoined"
 def sorts(token, before):
     """The symbols that this token can stand for, behind the token before it (None behind none)."""
     if token.kind == "number":
-        return ["joined" if before and before.end == token.start else "apart"]
+        joined = before is not None and before.end == token.start
+        return ["negated"] * joined + ["joined" if joined else "apart"] * (not is_lowest(token))
     if token.kind == "comma":
         return ["comma", ("infix", *COMMA)]
     if token.kind != "name":
@@ -61,7 +63,7 @@ def operator_rules(beginning):
 def plain_rules(beginning):
     """Terms of priority 0."""
     for body in (
-        ["apart"], ["string"], ["variable"], ["plain"], ["minus", "joined"],
+        ["apart"], ["string"], ["variable"], ["plain"], ["minus", "negated"],
         ["name", "open_ct", "places", "close"],
         ["open", ("place", WHOLE), "close"],
         ["open_list", "places", "close_list"],

@@ -7,6 +7,8 @@ import re
 
 MOST_TOKENS = 1024
 TOO_MANY, NO_READING, NO_ROOM = 10, 11, 9
+# the magnitude of the lowest integer: no integer's is larger, and in a clause it stands only behind its minus (request 4 of document 02)
+LOWEST = 2 ** 63
 PLAIN, NEGATIVE, CALL, PREFIX, INFIX, LIST, TAILED, CURLY, EMPTY_LIST, EMPTY_CURLY = range(10)
 
 # 01's table, row by row
@@ -38,6 +40,7 @@ GRAPHIC = re.compile(r"[#$&*+\-./:<=>?@^~\\]+")
 WORD = re.compile(r"[A-Za-z0-9_]+")
 NUMBER = re.compile(r"0'(?:\\x[0-9a-fA-F]+\\|\\[0-7]+\\|\\[abfnrtv\\'\"`]|''|[ -&(-\[\]-~])|0x[0-9a-fA-F]+|0o[0-7]+|0b[01]+|[0-9]+(?:\.[0-9]+(?:[eE][+-]?[0-9]+)?)?")
 QUOTED = re.compile(r"'(?:''|\\x[0-9a-fA-F]+\\|\\[0-7]+\\|\\\n|\\[abfnrtv\\'\"`]|[ -&(-\[\]-~])*'|\"(?:\"\"|\\[abfnrtv\\'\"`]|[ !#-\[\]-~])*\"")
+BASES = {"0x": 16, "0o": 8, "0b": 2}
 ESCAPE = re.compile(r"''|\\x([0-9a-fA-F]+)\\|\\([0-7]+)\\|\\(\n)|\\([abfnrtv\\'\"`])")
 
 
@@ -67,10 +70,23 @@ def decoded(item):
     return ESCAPE.sub(one, item[1:-1])
 
 
+def magnitude(spelling):
+    """What an integer's digits stand for; None for a float and for a character's code."""
+    if spelling[:2] in BASES:
+        return int(spelling[2:], BASES[spelling[:2]])
+    return int(spelling) if spelling.isdigit() else None
+
+
+def is_lowest(token):
+    return token.kind == "number" and magnitude(token.text) == LOWEST
+
+
 def doubtful(spelling, behind):
-    """A number that may be out of its limit, or that is set aside, or whose `0` may begin another form."""
-    return (len(spelling) > 15 or "e" in spelling.lower() and "x" not in spelling or spelling.isdigit() and behind == "_"
-            or spelling == "0" and behind in "'xob" or spelling[:3] == "0'\\" and len(spelling) > 4)
+    """A number that is or may be out of its limit, or that is set aside, or whose `0` may begin another form."""
+    integer = magnitude(spelling)
+    if integer is None:
+        return len(spelling) > 15 or "e" in spelling.lower() or spelling[:3] == "0'\\" and len(spelling) > 4
+    return integer > LOWEST or spelling.isdigit() and behind == "_" or spelling == "0" and behind in "'xob"
 
 
 def known(behind):
@@ -212,6 +228,8 @@ class Reader:
                 raise NoReading
             self.put(index, PLAIN)
         elif token.kind in ("number", "string", "variable"):
+            if is_lowest(token):
+                raise NoReading
             self.put(index, PLAIN)
         elif token.kind in ("open", "open_ct"):
             self.place(1200, ("close",))

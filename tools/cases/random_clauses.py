@@ -1,8 +1,8 @@
 """Random clauses, mostly of document 01's grammar, for `hold-clauses` and `compare-swi`."""
 from clauses import OPERATORS
-from grammar import INFIX_OPERATORS, PREFIX_OPERATORS
+from grammar import INFIX_OPERATORS, LOWEST, PREFIX_OPERATORS
 
-MANY = ["a", "b", "X", "1", "-1", "2.5", "'q r'", '"s"', "'-'", "','", "'is'", "(", " (", ")", "[", "]", "{", "}", ",", "|", "||", "f(", "-(", "!", ";(", "/* c */", "\n", "\r\n"]
+MANY = ["a", "b", "X", "1", "-1", f"{LOWEST}", f"-{LOWEST}", "2.5", "'q r'", '"s"', "'-'", "','", "'is'", "(", " (", ")", "[", "]", "{", "}", ",", "|", "||", "f(", "-(", "!", ";(", "/* c */", "\n", "\r\n"]
 PREFIXES = sorted(PREFIX_OPERATORS)
 ROLES = {name: str((INFIX_OPERATORS.get(name), PREFIX_OPERATORS.get(name))) for name in OPERATORS}
 ROWS = [[name for name in OPERATORS if ROLES[name] == roles] for roles in sorted(set(ROLES.values()))]
@@ -11,7 +11,7 @@ ROWS = [[name for name in OPERATORS if ROLES[name] == roles] for roles in sorted
 def term(dice, depth, operators):
     """A term, mostly of the grammar: what is put together need not have a reading."""
     if depth == 0:
-        return dice.choice(("a", "b", "X", "1", "-1", "[]", "{}", "'q'", '"s"', " - ", "!"))
+        return dice.choice(("a", "b", "X", "1", "-1", f"-{LOWEST}", "[]", "{}", "'q'", '"s"', " - ", "!"))
     one = lambda: term(dice, dice.randrange(depth), operators)
     return dice.choice((
         lambda: f"{one()} {dice.choice(operators)} {one()}",

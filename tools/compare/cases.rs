@@ -208,7 +208,7 @@ impl Maker {
     }
 
     fn integer(&mut self, clean: bool) -> u128 {
-        let last_in_limit = if clean { 16 } else { EDGES.len() };
+        let last_in_limit = if clean { 17 } else { EDGES.len() };
         match self.random.below(4) {
             0 => EDGES[self.random.below(last_in_limit)],
             1 => u128::from(self.random.next() >> 1),

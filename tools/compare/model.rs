@@ -6,7 +6,7 @@
 use crate::kind::Kind;
 
 pub const LONGEST_TEXT: usize = 65_535;
-pub const LARGEST_INTEGER: u128 = 9_223_372_036_854_775_807;
+pub const LARGEST_MAGNITUDE: u128 = 9_223_372_036_854_775_808;
 pub const LARGEST_MANTISSA: u128 = 9_007_199_254_740_992;
 pub const LARGEST_EXPONENT: i64 = 22;
 pub const LARGEST_CODE: u128 = 127;
@@ -416,7 +416,7 @@ impl Reader<'_> {
 
     fn integer(&mut self, first: usize, end: usize, base: u32) -> Raw {
         let n = number_of(&self.text[first..end], base);
-        self.out_of_limit |= n > LARGEST_INTEGER;
+        self.out_of_limit |= n > LARGEST_MAGNITUDE;
         self.code(n as u64, end)
     }
 

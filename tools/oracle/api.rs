@@ -11,8 +11,8 @@ use crate::parser::lexer::{Lexer, Token};
 #[derive(Copy, Clone, Debug, PartialEq, Eq)]
 pub enum Value {
     Nothing,
-    Integer(i64),
-    /// an integer beyond i64, whose value the shim does not keep
+    Integer(i128),
+    /// an integer beyond 64 bits, whose value the shim does not keep
     Big,
     /// the double's bits
     Float(u64),
@@ -113,8 +113,9 @@ impl Session<'_, '_> {
                 let text = self.lexer.machine_st.atom_tbl.with_text(atom, |s| s.as_bytes().to_vec());
                 (Kind::Name, text, Value::Nothing)
             }
-            Token::Literal(Literal::Fixnum(n)) => number(Value::Integer(n.get_num())),
-            Token::Literal(Literal::Integer(TypedArenaPtr(Integer::Small(n)))) => number(Value::Integer(n)),
+            Token::Literal(Literal::Fixnum(n)) => number(Value::Integer(n.get_num().into())),
+            Token::Literal(Literal::Integer(TypedArenaPtr(Integer::Small(n)))) => number(Value::Integer(n.into())),
+            Token::Literal(Literal::Integer(TypedArenaPtr(Integer::Wide(n)))) => number(Value::Integer(n.into())),
             Token::Literal(Literal::Integer(TypedArenaPtr(Integer::Big))) => number(Value::Big),
             Token::Literal(Literal::F64(_, f)) => number(Value::Float(f.0.to_bits())),
             Token::Literal(other) => unreachable!("{other:?}"),

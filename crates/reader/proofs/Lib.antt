@@ -25,6 +25,7 @@ pub mod Turns
 pub mod Runs
 pub mod Chains
 pub mod Indexes
+pub mod Lowest
 pub mod LineSpecimens
 pub mod Lines
 pub mod Puts

@@ -14,10 +14,10 @@ use Rattle.lexer.specs.declared.cursor.Cursor.{Cursor}
 use Rattle.lexer.specs.declared.refusal.Fault.{Fault}
 use Rattle.lexer.specs.declared.refusal.Refusal.the-variants.{BadQuoted, NoReading}
 use Rattle.lexer.proofs.Theorems.{blanked}
-use Rattle.reader.specs.Token.{End, Token, Tok, sameText}
+use Rattle.reader.specs.Token.{End, Number, Token, isLowest, Tok, sameText}
 use Rattle.reader.specs.Ops.{Table, operators}
 use Rattle.reader.specs.Admitted.{admits}
-use Rattle.reader.specs.Tree.{NodeKind, kindNumber, Tree, packed, numbers}
+use Rattle.reader.specs.Tree.{NodeKind, negative, kindNumber, Tree, packed, numbers, Has}
 use Rattle.reader.specs.Grammar.{Clause, Reads}
 use Rattle.reader.specs.Fault.{Chain, FirstFault}
 use Rattle.reader.specs.Machine.{Out, done, run, start, answer, Numbered}
@@ -33,6 +33,7 @@ use Rattle.reader.proofs.Outcomes.{some-outcome, one-outcome}
 use Rattle.reader.proofs.Permits.{never-no-reading, always-no-reading, read-tree, room-reads, behind-clause, behind-line, fits-line}
 use Rattle.reader.proofs.Returns.{tokens-alike, outcome-alike}
 use Rattle.reader.proofs.Indexes.{reads-within}
+use Rattle.reader.proofs.Lowest.{reads-negated, reads-bare}
 use Rattle.reader.proofs.Terms.{packed-both, packed-kind}
 use Rattle.reader.proofs.TreeRoom.{few-numbers, first-behind, first-inside, chained, fault-within, tree-within, first-span, spans-part, spans-source, read-front, refused-always, refused-back}
 use Rattle.reader.proofs.Spans.{tail}
@@ -83,6 +84,17 @@ kind-and-arity = packed-both
 
 pub kind-number : (k : NodeKind) (a : ℕ) → a < 1024 → packed k a / 1024 ≡ kindNumber k
 kind-number = packed-kind
+
+-- 02, request 4: "that one value stands only as the second half of a negative number". In tokens that read, for any table, the token before a number of
+-- the lowest integer's magnitude has the node of a negative number,
+pub lowest-negated : (T : Table) (ts : List Token) (t : Tree) → Reads T ts t → (j : ℕ) → tokenAt ts j .kind ≡ Number → isLowest (tokenAt ts j .value) ≡ true
+    → (i : ℕ) × (i + 1 ≡ j) × Has i negative t
+lowest-negated = reads-negated
+
+-- and no node stands at the number itself: what a plain node stands at is of a smaller magnitude.
+pub lowest-bare : (T : Table) (ts : List Token) (t : Tree) → Reads T ts t → (j : ℕ) → tokenAt ts j .kind ≡ Number → isLowest (tokenAt ts j .value) ≡ true
+    → (k : NodeKind) → Has j k t → ⊥
+lowest-bare = reads-bare
 
 -- ---- the clause call and its line: the text, the cursor, the slice that is written
 module _ (s : List ℕ) (c : Cursor) (d : List ℕ) where

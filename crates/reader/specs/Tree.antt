@@ -53,3 +53,14 @@ unfoldable mutual
   pub numbersAll : Forest → List ℕ
   numbersAll nil = []
   numbersAll (t ◂ f) = numbers t ++ numbersAll f
+
+mutual
+  -- the tree has a node of the kind k at the token i
+  pub data Has (i : ℕ) (k : NodeKind) : Tree → Type 0 where
+    root : {f : Forest} → Has i k (node i k f)
+    below : {j : ℕ} {l : NodeKind} {f : Forest} → HasIn i k f → Has i k (node j l f)
+
+  -- one of the trees has
+  pub data HasIn (i : ℕ) (k : NodeKind) : Forest → Type 0 where
+    first : {t : Tree} {f : Forest} → Has i k t → HasIn i k (t ◂ f)
+    later : {t : Tree} {f : Forest} → HasIn i k f → HasIn i k (t ◂ f)
