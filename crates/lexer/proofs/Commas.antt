@@ -18,7 +18,7 @@ use Rattle.lexer.proofs.Spans.{by-test}
 
 -- a token, if it is one, of the kind's answer v
 abbrev Says : Bool → Plain → Type 0
-Says v = Each (λ k e. isComma k ≡ v)
+Says v = Each (λ k u e. isComma k ≡ v)
 
 -- a mark, if it is one, is not the Comma
 abbrev Says-mark : Mark → Type 0
@@ -42,7 +42,7 @@ unfolding plainToken plainNumber nameToken soloTo mark classOf isComma
 says true s at layout x true h = rw (eqb-true x comma h) tt
 says false s at layout x true h = rw (eqb-true x comma h) refl
 says field s at layout x false h =
-    plain-each (λ k e. isComma k ≡ false) s at x
+    plain-each (λ k u e. isComma k ≡ false) s at x
     (record {
       word = λ e f. (refl, refl);
       symbol = λ e f. refl;
@@ -51,7 +51,8 @@ says field s at layout x false h =
       separator = refl;
       bars = refl;
       end = λ e. refl;
-      number = λ e. refl;
+      float = λ y e. refl;
+      integer = λ n e l. refl;
     })
     field layout
 

@@ -5,6 +5,7 @@ use mathlib.Core.Bool.{Bool, true, false}
 use mathlib.Core.List.{List}
 use borrow.Author.Tests.{eqb-true}
 use lib.Dec.{eqb, ltb}
+use lib.Ieee.{Float}
 use Rattle.lexer.specs.Chars.{is, smallLetter, capitalLetter, underscoreChar, decimalDigit, graphicTokenChar, layoutChar, soloChar, quoteChar, newline, singleQuote, doubleQuote, percent, point, bar, cut, semicolon}
 use Rattle.lexer.specs.Digits.{beyond}
 use Rattle.lexer.specs.Float.{floatValue}
@@ -22,6 +23,7 @@ use Rattle.lexer.specs.declared.float.Floated.{Floated}
 use Rattle.lexer.specs.declared.kind.Kind.{Kind}
 use Rattle.lexer.specs.declared.kind.Kind.the-variants.{Name, Variable, String, Number, HeadTailSeparator, DoubleBar, End}
 use Rattle.lexer.specs.declared.kind.Plain.{Plain}
+use Rattle.lexer.specs.declared.kind.Value.{Value}
 use Rattle.lexer.specs.declared.kind.Value.the-variants.{Nothing}
 use Rattle.lexer.specs.declared.number.Numeral.{Numeral}
 use Rattle.lexer.specs.declared.number.NumberToken.{NumberToken}
@@ -31,26 +33,27 @@ use Rattle.lexer.proofs.Spans.{by-test}
 
 -- ---- a token that is not quoted
 
-module _ (P : Kind → ℕ → Type 0) where
-  -- P holds of it, if it is one, by its kind and its end
+module _ (P : Kind → Value → ℕ → Type 0) where
+  -- P holds of it, if it is one, by its kind, its value and its end
   abbrev pub Each : Plain → Type 0
-  Each (Plain.Whole k v e) = P k e
+  Each (Plain.Whole k v e) = P k v e
   Each (Plain.Refused w) = Unit {0}
 
   -- P holds by each rule that may read it at `at`, where x stands
   pub record Rules (s : List ℕ) (at x : ℕ) : Type 0 where
-    pub word : (e : ℕ) → alphanumerics s (at + 1) ≡ Scan.Stop e → P Name e × P Variable e
-    pub symbol : (e : ℕ) → graphics s (at + 1) ≡ Scan.Stop e → P Name e
-    pub solo : P Name (at + 1)
-    pub marked : (layout : Bool) (k : Kind) → mark layout x ≡ Mark.Is k → P k (at + 1)
-    pub separator : P HeadTailSeparator (at + 1)
-    pub bars : P DoubleBar (at + 2)
-    pub end : (e : ℕ) → P End e
-    pub number : (e : ℕ) → P Number e
+    pub word : (e : ℕ) → alphanumerics s (at + 1) ≡ Scan.Stop e → P Name Nothing e × P Variable Nothing e
+    pub symbol : (e : ℕ) → graphics s (at + 1) ≡ Scan.Stop e → P Name Nothing e
+    pub solo : P Name Nothing (at + 1)
+    pub marked : (layout : Bool) (k : Kind) → mark layout x ≡ Mark.Is k → P k Nothing (at + 1)
+    pub separator : P HeadTailSeparator Nothing (at + 1)
+    pub bars : P DoubleBar Nothing (at + 2)
+    pub end : (e : ℕ) → P End Nothing e
+    pub float : (x : Float) (e : ℕ) → P Number (Value.Float x) e
+    pub integer : (n e : ℕ) → ltb n beyond ≡ true → P Number (Value.Integer n) e
 
   module _ (s : List ℕ) (at x : ℕ) (r : Rules s at x) where
     -- names and variables
-    run-each : (k : Kind) (q : Scan) → ((e : ℕ) → q ≡ Scan.Stop e → P k e) → Each (runToken k q)
+    run-each : (k : Kind) (q : Scan) → ((e : ℕ) → q ≡ Scan.Stop e → P k Nothing e) → Each (runToken k q)
     unfolding runToken
     run-each k (Scan.Stop e) h = h e refl
     run-each k (Scan.Refused w) h = tt
@@ -88,12 +91,12 @@ module _ (P : Kind → ℕ → Type 0) where
     -- numbers
     float-each : (e : ℕ) (d : Floated) → Each (floated at e d)
     unfolding floated
-    float-each e (Floated.Value d) = r .number e
+    float-each e (Floated.Value d) = r .float d e
     float-each e Floated.Beyond = tt
 
     value-each : (e : ℕ) (n : Numeral) → Each (valued at e n)
     unfolding valued
-    value-each e (Numeral.Integer n) = by-test Each (ltb n beyond) _ _ (λ _. r .number e) (λ _. tt)
+    value-each e (Numeral.Integer n) = by-test Each (ltb n beyond) _ _ (r .integer n e) (λ _. tt)
     value-each e (Numeral.Float m sign y d) = float-each e (floatValue m sign y d)
 
     number-each : (field : Bool) (n : NumberToken) → Each (numbered field at n)

@@ -5,6 +5,7 @@ pub mod Cursors
 pub mod EachToken
 pub mod Faults
 pub mod FirstMark
+pub mod Integers
 pub mod Items
 pub mod Layouts
 pub mod Looks

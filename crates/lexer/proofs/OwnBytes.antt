@@ -15,6 +15,7 @@ use Rattle.lexer.specs.Token.{plainToken, plainNumber, plain, source, Le
 use Rattle.lexer.specs.declared.cursor.Scan.{Scan}
 use Rattle.lexer.specs.declared.kind.Kind.{Kind}
 use Rattle.lexer.specs.declared.kind.Plain.{Plain}
+use Rattle.lexer.specs.declared.kind.Value.{Value}
 use Rattle.lexer.specs.declared.token.Token.{Token}
 use Rattle.lexer.proofs.Cursors.{both}
 use Rattle.lexer.proofs.EachToken.{Each, Rules, plain-each, read-each}
@@ -54,8 +55,8 @@ run-kept lo hi few at (x ∷ xs) e f =
 
 module _ (s : List ℕ) where
   -- a token that is not quoted and begins with x, at `at`: its bytes stay, if they are its text
-  abbrev Own : ℕ → ℕ → Kind → ℕ → Type 0
-  Own at x k e = textOf k ≡ source → Kept at (x ∷ drop (at + 1) s) e
+  abbrev Own : ℕ → ℕ → Kind → Value → ℕ → Type 0
+  Own at x k v e = textOf k ≡ source → Kept at (x ∷ drop (at + 1) s) e
 
   -- so by each rule, if x is no carriage return
   rules : (at x : ℕ) → blank x ≡ x → Rules (Own at x) s at x
@@ -68,7 +69,8 @@ module _ (s : List ℕ) where
         separator = λ g. cc;
         bars = λ g. cc;
         end = λ e g. cc;
-        number = λ e g. cc;
+        float = λ y e g. cc;
+        integer = λ n e l g. cc;
       }
     where
       one : Kept at (x ∷ drop (at + 1) s) (at + 1)

@@ -11,6 +11,7 @@ use lib.ListN.{length, getD}
 use denote.Ref.{RefT, ptr, now}
 use Rattle.lexer.specs.Chars.{is, foreignByte, carriageReturn, singleQuote, comma}
 use Rattle.lexer.specs.Cursor.{longest, startCursor, walk, part, moveTo, valid, Valid}
+use Rattle.lexer.specs.Digits.{largestMagnitude}
 use Rattle.lexer.specs.Float.{Limits, Scale, scale, over, under, floatValue}
 use Rattle.lexer.specs.Layout.{commentText}
 use Rattle.lexer.specs.Look.{peek, lookahead}
@@ -29,7 +30,7 @@ use Rattle.lexer.specs.declared.cursor.Scan.{Scan}
 use Rattle.lexer.specs.declared.float.Floated.{Floated}
 use Rattle.lexer.specs.declared.kind.Kind.the-variants.{Name, End}
 use Rattle.lexer.specs.declared.kind.Plain.{Plain}
-use Rattle.lexer.specs.declared.kind.Value.the-variants.{Nothing}
+use Rattle.lexer.specs.declared.kind.Value.the-variants.{Integer, Nothing}
 use Rattle.lexer.specs.declared.quoted.Item.{Item}
 use Rattle.lexer.specs.declared.text.Part.{Part}
 use Rattle.lexer.specs.declared.text.QuotedAnswer.{QuotedAnswer}
@@ -41,6 +42,7 @@ use Rattle.lexer.proofs.Commas.{commas}
 use Rattle.lexer.proofs.Cursors as Cursors
 use Rattle.lexer.proofs.Faults.{Placed, refusal-placed, placed-inside}
 use Rattle.lexer.proofs.FirstMark.{Clear, First, first-mark, mark-first, clear-end, clear-foreign}
+use Rattle.lexer.proofs.Integers.{within-limit}
 use Rattle.lexer.proofs.Promises.{LexemeEnds, lexeme-ends}
 use Rattle.lexer.proofs.Refusals.{all, numbers, number-once}
 use Rattle.lexer.proofs.OwnBytes.{own-bytes}
@@ -134,6 +136,10 @@ module _ (field : Bool) (s : List ℕ) (from : ℕ) (t : Token) (e : ℕ) where
   -- it is the Comma exactly if a comma stands where it starts
   pub comma-starts : (x : Text) → readLexeme field s from ≡ lexeme t e x → isComma (t .kind) ≡ eqb (getD s (t .start) 0) comma
   comma-starts = commas field s from t e
+
+  -- 02, request 4: its value, where it is an integer, is at most the magnitude of the lowest integer
+  pub integer-within : (x : Text) → readLexeme field s from ≡ lexeme t e x → (n : ℕ) → t .value ≡ Integer n → n ≤ largestMagnitude
+  integer-within = within-limit field s from t e
 
   -- a name is quoted, and its text decoded, exactly if a single quote stands where it starts; the text of another name is its own bytes
   pub name-spelt : (x : Text) → readLexeme field s from ≡ lexeme t e x → t .kind ≡ Name → NameText (getD s (t .start) 0) x

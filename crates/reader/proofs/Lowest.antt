@@ -1,17 +1,20 @@
 -- In a reading a number of the lowest integer's magnitude is the second half of a negative number, and no node stands at it: both by one induction on
 -- the reading. Assumes nothing.
-use Prim.Native.Nat.{ℕ, suc, _+_, _-_, _≤_}
+use Prim.Native.Nat.{ℕ, suc, _+_, _-_, _<_, _≤_}
 use mathlib.Core.Path.{_≡_, refl, sym, subst, _∙_}
 use mathlib.Core.Bool.{Bool, true, false, false≢true}
 use mathlib.Core.List.{List, [], _∷_}
 use mathlib.Core.Logic.{_⊎_, inl, inr, ⊎-elim, ⊎-map}
 use native.Mathlib.Nat.{eq-or-lt-of-le}
 use native.Mathlib.Omega.{arith}
-use Rattle.reader.specs.Token.{Token, Number, isLowest, Terminal, name, number, varOrString, round, square, brace, stop, terminalAs, Tok, tok, terminals}
+use borrow.Author.Tests.{eq-eqb}
+use Rattle.lexer.specs.Digits.{largestMagnitude}
+use Rattle.reader.specs.Token.{Integer, Token, Number, isLowest, Terminal, name, number, varOrString, round, square, brace, stop, terminalAs, Tok, tok, terminals}
 use Rattle.reader.specs.Ops.{Table, Inf, IsInfix, named, theComma}
 use Rattle.reader.specs.Tree.{NodeKind, plain, negative, call, prefix, infx, list, listTail, curly, emptyList, emptyCurly, Tree, node, leaf, Forest, nil, _◂_, snoc, Has, root, below, HasIn, first, later}
 use Rattle.reader.specs.Grammar.{Term, aNumber, aVarOrString, aName, aCall, aRound, aList, aListTail, aCurly, anEmptyList, anEmptyCurly, aNegative, aPrefix, anInfix, Args, one, more, Place, alone, whole, Clause, clause, Reads}
 use Rattle.reader.specs.Listing.{tokenAt}
+use Rattle.reader.proofs.Spans.{Limited}
 
 -- low: a number of that magnitude
 abbrev isLow : Terminal → Bool
@@ -208,3 +211,10 @@ module _ (T : Table) (ts : List Token) (t : Tree) (reads : Reads T ts t) (j : �
 
   pub reads-bare : (n : NodeKind) → Has j n t → ⊥
   reads-bare n x = false≢true (sym (read .bare j n (first x)) ∙ low-here)
+
+-- so where no token's integer is above that magnitude, one at which a node stands is below it
+pub plain-below : (ts : List Token) → Limited ts → (T : Table) (t : Tree) → Reads T ts t → (j : ℕ) (k : NodeKind) → Has j k t
+    → (n : ℕ) → tokenAt ts j .kind ≡ Number → tokenAt ts j .value ≡ Integer n → n < largestMagnitude
+unfolding isLowest
+plain-below ts limited T t reads j k x n a f =
+    ⊎-elim (λ (z : n ≡ largestMagnitude). absurd (reads-bare T ts t reads j a (cc (f, eq-eqb n largestMagnitude z)) k x)) (λ l. l) (eq-or-lt-of-le (limited j n f))

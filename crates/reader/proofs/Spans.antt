@@ -1,4 +1,4 @@
--- The tokens of a clause, one behind the other: how many, their spans, and the spans in two slices. Assumes nothing.
+-- The tokens of a clause, one behind the other: how many, their spans, their integers. Assumes nothing.
 use Prim.Native.Nat.{ℕ, zero, suc, _+_, _<_, _≤_}
 use mathlib.Core.Path.{_≡_, refl, sym, _∙_, ap, subst}
 use mathlib.Core.Bool.{Bool, true, false, cond}
@@ -8,12 +8,13 @@ use lib.Dec.{eqb}
 use lib.ListN.{length, getD}
 use Rattle.lexer.specs.Chars.{comma}
 use Rattle.lexer.specs.Cursor.{valid, moveTo}
+use Rattle.lexer.specs.Digits.{largestMagnitude}
 use Rattle.lexer.specs.Token.{Lexeme, lexeme, refused, isComma, readLexeme, answered, nextToken}
 use Rattle.lexer.specs.declared.cursor.Cursor.{Cursor}
 use Rattle.lexer.specs.declared.token.Token as lexer
 use Rattle.lexer.specs.declared.token.Answer.{Answer}
-use Rattle.lexer.proofs.Theorems.{token-promises, comma-starts}
-use Rattle.reader.specs.Token.{Token, terminals}
+use Rattle.lexer.proofs.Theorems.{token-promises, comma-starts, integer-within}
+use Rattle.reader.specs.Token.{Integer, Token, terminals}
 use Rattle.reader.specs.Clause.{tokenIn, isEnd, Gathered, whole, stopped, tooMany, with, onward, gather}
 use Rattle.reader.specs.Listing.{tokenAt}
 use Rattle.reader.specs.Fault.{Chain, none, more}
@@ -57,6 +58,13 @@ Told s ts = (i : ℕ) → i < length ts → isComma (tokenAt ts i .kind) ≡ eqb
 told-none : (s : List ℕ) → Told s []
 told-none s i l = absurd (omega arith)
 
+-- a value that is an integer is within the tokenizer's limit
+abbrev pub Limited : List Token → Type 0
+Limited ts = (i n : ℕ) → tokenAt ts i .value ≡ Integer n → n ≤ largestMagnitude
+
+limited-none : Limited []
+limited-none i n h = let z : _≡_ {A = ℕ} 0 1 = cc in absurd (omega arith)
+
 -- ---- one token more
 module _ (s : List ℕ) (c : Cursor) (t : lexer.Token) (d : Cursor) (k : Known s c t d) (n : ℕ) where
   its-token : Token
@@ -65,6 +73,10 @@ module _ (s : List ℕ) (c : Cursor) (t : lexer.Token) (d : Cursor) (k : Known s
   told-known : (ts : List Token) → Told s ts → Told s (tokenIn s t (d .offset) (k .text) ∷ ts)
   told-known ts r zero l = comma-starts false s (c .offset) t (d .offset) (k .text) (k .reads)
   told-known ts r (suc i) l = r i (omega arith)
+
+  limited-known : (ts : List Token) → Limited ts → Limited (tokenIn s t (d .offset) (k .text) ∷ ts)
+  limited-known ts r zero = integer-within false s (c .offset) t (d .offset) (k .text) (k .reads)
+  limited-known ts r (suc i) = r i
 
   gather-known : gather (suc n) s c ≡ cond (isEnd (t .kind)) (whole (its-token ∷ []) d) (with its-token (gather n s d))
   unfolding gather onward its-token
@@ -89,6 +101,7 @@ pub record Few (s : List ℕ) (c : Cursor) (n : ℕ) (ts : List Token) (e : Curs
   pub few : length ts ≤ n
   pub chain : Chain (length s) (c .offset) ts
   pub told : Told s ts
+  pub limited : Limited ts
   pub further : c .offset < e .offset
   pub inside : e .offset ≤ length s
   pub next-passes : valid (length s) e ≡ true
@@ -117,6 +130,7 @@ module _ (s : List ℕ) (c : Cursor) (v : valid (length s) c ≡ true) (n : ℕ)
             few = omega arith;
             chain = more (p .behind) (p .ahead) (none (p .inside));
             told = told-known s c t d k n [] (told-none s);
+            limited = limited-known s c t d k n [] limited-none;
             further = p .further;
             inside = p .inside;
             next-passes = p .next-passes;
@@ -131,6 +145,7 @@ module _ (s : List ℕ) (c : Cursor) (v : valid (length s) c ≡ true) (n : ℕ)
             few = omega (arith, f .few);
             chain = more (p .behind) (p .ahead) (f .chain);
             told = told-known s c t d k n (a .0) (f .told);
+            limited = limited-known s c t d k n (a .0) (f .limited);
             further = omega (arith, p .further, f .further);
             inside = f .inside;
             next-passes = f .next-passes;

@@ -9,12 +9,13 @@ use mathlib.Core.List.{List, [], _∷_, _++_}
 use lib.ListN.{length, getD}
 use lib.Seq.{sets}
 use Rattle.lexer.specs.Cursor.{part, valid}
+use Rattle.lexer.specs.Digits.{largestMagnitude}
 use Rattle.lexer.specs.Refusal.{fault}
 use Rattle.lexer.specs.declared.cursor.Cursor.{Cursor}
 use Rattle.lexer.specs.declared.refusal.Fault.{Fault}
 use Rattle.lexer.specs.declared.refusal.Refusal.the-variants.{BadQuoted, NoReading}
 use Rattle.lexer.proofs.Theorems.{blanked}
-use Rattle.reader.specs.Token.{End, Number, Token, isLowest, Tok, sameText}
+use Rattle.reader.specs.Token.{Integer, End, Number, Token, isLowest, Tok, sameText}
 use Rattle.reader.specs.Ops.{Table, operators}
 use Rattle.reader.specs.Admitted.{admits}
 use Rattle.reader.specs.Tree.{NodeKind, negative, kindNumber, Tree, packed, numbers, Has}
@@ -33,10 +34,10 @@ use Rattle.reader.proofs.Outcomes.{some-outcome, one-outcome}
 use Rattle.reader.proofs.Permits.{never-no-reading, always-no-reading, read-tree, room-reads, behind-clause, behind-line, fits-line}
 use Rattle.reader.proofs.Returns.{tokens-alike, outcome-alike}
 use Rattle.reader.proofs.Indexes.{reads-within}
-use Rattle.reader.proofs.Lowest.{reads-negated, reads-bare}
+use Rattle.reader.proofs.Lowest.{reads-negated, reads-bare, plain-below}
 use Rattle.reader.proofs.Terms.{packed-both, packed-kind}
 use Rattle.reader.proofs.TreeRoom.{few-numbers, first-behind, first-inside, chained, fault-within, tree-within, first-span, spans-part, spans-source, read-front, refused-always, refused-back}
-use Rattle.reader.proofs.Spans.{tail}
+use Rattle.reader.proofs.Spans.{tail, gathered-few}
 use Rattle.reader.proofs.Table.{same-exactly, fair, operators-admitted}
 use Rattle.reader.proofs.Answer.{answer-complete, answer-sound, one-tree, reads?, tree-small}
 use Rattle.reader.proofs.Specimens.{Holds, All, table, specimens}
@@ -91,10 +92,16 @@ pub lowest-negated : (T : Table) (ts : List Token) (t : Tree) → Reads T ts t �
     → (i : ℕ) × (i + 1 ≡ j) × Has i negative t
 lowest-negated = reads-negated
 
--- and no node stands at the number itself: what a plain node stands at is of a smaller magnitude.
+-- and no node stands at the number itself.
 pub lowest-bare : (T : Table) (ts : List Token) (t : Tree) → Reads T ts t → (j : ℕ) → tokenAt ts j .kind ≡ Number → isLowest (tokenAt ts j .value) ≡ true
     → (k : NodeKind) → Has j k t → ⊥
 lowest-bare = reads-bare
+
+-- So in a clause every integer at which a node stands is below that magnitude.
+pub plain-integers : (s : List ℕ) (c : Cursor) (ts : List Token) (e : Cursor) → valid (length s) c ≡ true → clauseTokens s c ≡ whole ts e
+    → (T : Table) (t : Tree) → Reads T ts t → (j : ℕ) (k : NodeKind) → Has j k t
+    → (n : ℕ) → tokenAt ts j .kind ≡ Number → tokenAt ts j .value ≡ Integer n → n < largestMagnitude
+plain-integers s c ts e v g = plain-below ts (gathered-few mostTokens s c ts e v g .limited)
 
 -- ---- the clause call and its line: the text, the cursor, the slice that is written
 module _ (s : List ℕ) (c : Cursor) (d : List ℕ) where

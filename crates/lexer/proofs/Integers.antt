@@ -1,0 +1,54 @@
+-- An integer that was read is within the limit. A law of the definitions alone, for the crates above. Assumes nothing.
+use Prim.Native.Nat.{ℕ, _≤_}
+use mathlib.Core.Path.{_≡_, subst}
+use mathlib.Core.Bool.{Bool}
+use mathlib.Core.List.{List}
+use native.Mathlib.Omega.{arith}
+use borrow.Author.Tests.{ltb-true}
+use Rattle.lexer.specs.Digits.{largestMagnitude, beyond}
+use Rattle.lexer.specs.Token.{plain, Text, Lexeme, lexeme, refused, plainLexeme, readLexeme}
+use Rattle.lexer.specs.declared.kind.Plain.{Plain}
+use Rattle.lexer.specs.declared.kind.Value.{Value}
+use Rattle.lexer.specs.declared.kind.Value.the-variants.{Integer, Float, Nothing}
+use Rattle.lexer.specs.declared.token.Token.{Token}
+use Rattle.lexer.proofs.EachToken.{Each, plain-each, read-each}
+
+-- a value, if it is an integer, is at most that of the limit
+abbrev Within : Value → Type 0
+Within (Integer n) = n ≤ largestMagnitude
+Within (Float x) = Unit {0}
+Within Nothing = Unit {0}
+
+-- so is the value of what was read, if it is a token
+abbrev Reads-within : Lexeme → Type 0
+Reads-within (lexeme t e x) = Within (t .value)
+Reads-within (refused w) = Unit {0}
+
+read-within : (at : ℕ) (p : Plain) → Each (λ k v e. Within v) p → Reads-within (plainLexeme at p)
+unfolding plainLexeme
+read-within at (Plain.Whole k v e) h = h
+read-within at (Plain.Refused w) h = tt
+
+module _ (field : Bool) (s : List ℕ) (from : ℕ) (t : Token) (e : ℕ) (x : Text) where
+  -- a token that is not quoted, at `at`, where b stands
+  plain-within : (at b : ℕ) (layout : Bool) → Each (λ k v e. Within v) (plain field s at layout b)
+  plain-within at b =
+      plain-each (λ k v e. Within v) s at b
+      (record {
+        word = λ e f. (tt, tt);
+        symbol = λ e f. tt;
+        solo = tt;
+        marked = λ layout k f. tt;
+        separator = tt;
+        bars = tt;
+        end = λ e. tt;
+        float = λ y e. tt;
+        integer = λ n e f. let l = ltb-true n beyond f in omega arith;
+      })
+      field
+
+  pub within-limit : readLexeme field s from ≡ lexeme t e x → (n : ℕ) → t .value ≡ Integer n → n ≤ largestMagnitude
+  within-limit h n f =
+      subst Within f
+      (rw h at (read-each field s Reads-within (λ w. tt) (λ at l bs d g. tt) (λ at l bs d g. tt)
+      (λ at b l q layout. read-within at (plain field s at layout b) (plain-within at b layout)) from))
