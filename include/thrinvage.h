@@ -111,7 +111,7 @@ enum thrinvage_kind {
 
 /* A token's field `value_kind`. A token has no sign: a tree's negative number has it, and the value of the number behind its minus is the magnitude.
  * The lowest integer's is one more than an int64_t holds, so `-(int64_t)value` overflows. This does not: `value == 0 ? 0 : -1 - (int64_t)(value - 1)`.
- * An integer that is no part of a negative number fits in an int64_t, in any clause that was read. */
+ * The integer of a plain node fits in an int64_t. */
 enum thrinvage_value_kind {
     THRINVAGE_NOTHING = 0, /* `value` is 0 */
     THRINVAGE_INTEGER = 1, /* `value` is the integer, at most 9,223,372,036,854,775,808 */

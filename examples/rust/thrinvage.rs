@@ -50,8 +50,8 @@ const KINDS: [Kind; 15] = [
 #[derive(Clone, Copy, Debug, PartialEq)]
 pub enum Value {
     Nothing,
-    /// A magnitude, at most 9,223,372,036,854,775,808, since a token has no sign. Of a tree's negative number n the integer is
-    /// `0_i64.wrapping_sub_unsigned(n)`; any other that stands in a clause fits in an `i64`.
+    /// A magnitude n, at most 9,223,372,036,854,775,808, since a token has no sign: a tree's negative number has it, and is
+    /// `0_i64.wrapping_sub_unsigned(n)`. The integer of a plain node fits in an `i64`.
     Integer(u64),
     Float(f64),
 }
