@@ -52,7 +52,7 @@ fn grown(value: u64, base: u64, d: u64) -> u64
     if value < NEAR {
         return value * base + d;
     }
-    if (BEYOND - 1) / base < value {
+    if LARGEST_MAGNITUDE / base < value {
         return BEYOND;
     }
     let sum = value * base + d;
