@@ -200,6 +200,11 @@ static bool gives_a_value_to_no_number(struct done *done)
     return is_token(done) && done->record[VALUE_KIND] == 0 && (done->record[VALUE] = 1, true);
 }
 
+static bool gives_the_magnitude_behind_the_largest(struct done *done)
+{
+    return is_token(done) && done->record[VALUE_KIND] == 1 && (done->record[VALUE] = (UINT64_C(1) << 63) + 1, true);
+}
+
 static bool gives_a_value_that_differs_now_and_then(struct done *done)
 {
     static unsigned turn;
@@ -959,6 +964,7 @@ static const struct fault {
     FAULT(gives_kind_15),
     FAULT(gives_value_kind_3),
     FAULT(gives_a_value_to_no_number),
+    FAULT(gives_the_magnitude_behind_the_largest),
     FAULT(gives_a_value_that_differs_now_and_then),
     FAULT(gives_part_2),
     FAULT(shows_a_byte_more),
@@ -1149,6 +1155,7 @@ static const struct fault {
     FAULT_IN(FEED, gives_kind_15),
     FAULT_IN(FEED, gives_value_kind_3),
     FAULT_IN(FEED, gives_a_value_to_no_number),
+    FAULT_IN(FEED, gives_the_magnitude_behind_the_largest),
     FAULT_IN(FEED, gives_a_value_that_differs_now_and_then),
 };
 

@@ -15,6 +15,7 @@
 #include <time.h>
 
 enum { LONGEST_TEXT = 65535, LARGEST_ROOM = 4096 };
+static const uint64_t LARGEST_MAGNITUDE = UINT64_C(1) << 63;
 
 /* All begin with the cursor and the refusal's offset. */
 union record {
@@ -172,7 +173,7 @@ static void check_token(const struct running *asked, const struct thrinvage_toke
     must(token->value_kind <= THRINVAGE_FLOAT, "no such kind of value");
     must((token->value_kind != THRINVAGE_NOTHING) == (token->kind == THRINVAGE_NUMBER), "numbers have values, and nothing else has");
     must(token->value_kind != THRINVAGE_NOTHING || token->value == 0, "what has no value has one");
-    must(token->value >> 63 == 0, "a value has its highest bit");
+    must(token->value <= (token->value_kind == THRINVAGE_INTEGER ? LARGEST_MAGNITUDE : INT64_MAX), "a value is too large, or negative");
 }
 
 static void check_text(const struct running *asked, const struct given *given)
