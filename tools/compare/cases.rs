@@ -1,7 +1,7 @@
 //! Cases made from a seed: all short texts over chosen alphabets, random texts biased by the grammar, damaged copies of them, texts at the
 //! limits of length, and real Prolog text where some is installed.
 use crate::kind::Kind;
-use crate::model::{self, Cursor, LONGEST_TEXT};
+use crate::model::{self, Cursor, LARGEST_MAGNITUDE, LONGEST_TEXT};
 use crate::protocol::{Case, LARGEST_ROOM, readings};
 use std::path::Path;
 
@@ -178,7 +178,7 @@ const COMMENTS: [&str; 15] = [
 const UNCLOSED: [&str; 10] = ["/*", "/* ", "/*/", "/**", "/* * /", "/*\n", "/* c", "/* **", "/", "% c"];
 const MARKS: [&str; 8] = [". ", ".\n", ".\t", ".\r\n", ".%", ".% c\n", ".\n\n", "."];
 
-/// Integers around which something changes: limits of 01, of the Rust's fixnums, of machine words.
+/// Integers around which something changes, in their order: limits of documents 01 and 02, of the Rust's fixnums, of machine words.
 const EDGES: [u128; 20] = [
     0, 1, 9, 10, 127, 255, 65_535, 4_294_967_295, 9_007_199_254_740_991, 9_007_199_254_740_992, 9_007_199_254_740_993,
     36_028_797_018_963_967, 36_028_797_018_963_968, 922_337_203_685_477_580, 9_223_372_036_854_775_806,
@@ -208,9 +208,9 @@ impl Maker {
     }
 
     fn integer(&mut self, clean: bool) -> u128 {
-        let last_in_limit = if clean { 17 } else { EDGES.len() };
+        let choices = if clean { EDGES.partition_point(|&n| n <= LARGEST_MAGNITUDE) } else { EDGES.len() };
         match self.random.below(4) {
-            0 => EDGES[self.random.below(last_in_limit)],
+            0 => EDGES[self.random.below(choices)],
             1 => u128::from(self.random.next() >> 1),
             2 if !clean => u128::from(self.random.next()) << self.random.below(8),
             _ => u128::from(self.random.next() >> (1 + self.random.below(63))),
