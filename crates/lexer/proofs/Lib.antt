@@ -9,6 +9,7 @@ pub mod Integers
 pub mod Items
 pub mod Layouts
 pub mod Looks
+pub mod Marks
 pub mod Numbers
 pub mod OwnBytes
 pub mod Promises

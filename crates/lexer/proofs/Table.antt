@@ -4,7 +4,8 @@ use mathlib.Core.Bool.{Bool, true, false, not}
 use mathlib.Core.List.{List, [], _∷_}
 use Prim.Native.Nat.{ℕ, zero, suc, _+_, _<_, zero-le, suc-le-suc}
 use native.Mathlib.Nat.{add-zero, zero-add, add-suc, suc-add, le-of-suc-le-suc, not-suc-le-zero}
-use lib.Dec.{T}
+use borrow.Author.Tests.{eqb-true}
+use lib.Dec.{T, eqb}
 use lib.ListN.{length, getD}
 
 abbrev pub both : Bool → Bool → Bool
@@ -61,3 +62,10 @@ agree f g n = every 0 (λ i x. alike (f i) (g i)) 0 (blanks n)
 
 pub agreed : (f g : ℕ → Bool) (n : ℕ) → T (agree f g n) → (k : ℕ) → k < n → f k ≡ g k
 agreed f g n t k h = alike-same (f k) (g k) (at 0 (λ i x. alike (f i) (g i)) (blanks n) t k (blanks-length n k h))
+
+-- and that two numberings do
+abbrev pub alikes : (ℕ → ℕ) → (ℕ → ℕ) → ℕ → Bool
+alikes f g n = agree (λ i. eqb (f i) (g i)) (λ i. true) n
+
+pub matched : (f g : ℕ → ℕ) (n : ℕ) → T (alikes f g n) → (k : ℕ) → k < n → f k ≡ g k
+matched f g n t k h = eqb-true (f k) (g k) (agreed (λ i. eqb (f i) (g i)) (λ i. true) n t k h)

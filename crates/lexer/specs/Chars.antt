@@ -1,8 +1,8 @@
 -- Characters by name, and the classes of bytes: ISO 6.5. Definitions only.
-use Prim.Native.Nat.{ℕ, _-_, _/_, _%_, _^_}
+use Prim.Native.Nat.{ℕ}
 use mathlib.Core.Bool.{Bool, true, false, cond, _&&_, _||_}
 use mathlib.Core.List.{List, [], _∷_}
-use lib.Dec.{leb, ltb, eqb}
+use lib.Dec.{leb, eqb}
 
 -- ---- characters that the rules name
 abbrev pub alert : ℕ
@@ -143,7 +143,7 @@ bar = 124
 abbrev pub closeBrace : ℕ
 closeBrace = 125
 
--- ---- classes, in the order in which the table numbers them
+-- ---- classes, numbered so that letters, the underscore and digits are the first four
 abbrev pub smallLetter : ℕ
 smallLetter = 0
 
@@ -208,10 +208,3 @@ classOf x =
 -- x is of the class k
 abbrev pub is : ℕ → ℕ → Bool
 is k x = eqb (classOf x) k
-
--- ---- sets of bytes below 128, as the code holds them: the members below 64 are the bits of lo, the others those of hi
-abbrev pub bit : ℕ → ℕ → Bool
-bit w i = eqb (w / 2 ^ i % 2) 1
-
-unfoldable pub member : ℕ → ℕ → ℕ → Bool
-member lo hi x = cond (ltb x 64) (bit lo x) (cond (ltb x 128) (bit hi (x - 64)) false)

@@ -50,6 +50,10 @@ mark layout x =
     (cond (eqb x comma) (Mark.Is Comma)
     Mark.Other))))))
 
+abbrev pub isMark : Mark → Bool
+isMark (Mark.Is k) = true
+isMark Mark.Other = false
+
 -- 01: `|` needs a next character; `||` is one token
 unfoldable pub barTo : ℕ → Look → Plain
 barTo at (Look.Refused w) = Refused w

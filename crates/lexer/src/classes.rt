@@ -1,98 +1,115 @@
-// The classes of bytes: of each, the set of its members, as bits of two words or as the bytes themselves, whichever the
-// token call tests faster.
+// The classes of bytes, by comparisons: there is no table of them, neither here nor in what the compiler makes of it. The order
+// of the comparisons is the one in which the token call was fastest.
 ghost use mathlib.Core.Path.{_≡_};
-ghost use Rattle.lexer.specs.Chars.{classOf, is, within, member, smallLetter, underscoreChar, decimalDigit, graphicTokenChar, layoutChar, quoteChar, foreignByte};
+ghost use mathlib.Core.Bool.{_&&_};
+ghost use lib.Dec.{ltb};
+ghost use Rattle.lexer.specs.Chars.{space, classOf, is, within, smallLetter, underscoreChar, decimalDigit, graphicTokenChar, layoutChar, quoteChar, foreignByte};
 
-const WORD: u8 = 64;
-
-const TWO_WORDS: u8 = 128;
-
-// Whether a byte is in a set: `low` has a bit for each member below WORD, and `high` for each from there to TWO_WORDS. The
-// words stay in registers, where a table would be built anew on the stack at each use.
-fn is_in(low: u64, high: u64, b: u8) -> bool
-    ensures { λ r. ⌜ r ≡ member low high b ⌝ }
+// From `first` to `last`, both included.
+pub(crate) fn between(first: u8, last: u8, b: u8) -> bool
+    ensures { λ r. ⌜ r ≡ within first last b ⌝ }
 {
-    if b < WORD {
-        return (low >> b) % 2 == 1;
-    }
-    if b < TWO_WORDS {
-        return (high >> (b % WORD)) % 2 == 1;
-    }
-    false
+    if b < first { false } else { b <= last }
 }
 
 pub(crate) fn is_small(b: u8) -> bool
     ensures { λ r. ⌜ r ≡ is smallLetter b ⌝ }
 {
-    match b {
-        b'a'..=b'z' => true,
-        _ => false,
-    }
+    between(b'a', b'z', b)
 }
 
-// A letter or the underscore.
+// A letter or the underscore, which is one range with the small letters, but for the back quote between them.
 pub(crate) fn is_alphabetic(b: u8) -> bool
     ensures { λ r. ⌜ r ≡ within smallLetter underscoreChar (classOf b) ⌝ }
 {
-    is_in(0x0, 0x7fffffe87fffffe, b)
+    if b == b'`' {
+        return false;
+    }
+    if between(b'_', b'z', b) {
+        return true;
+    }
+    between(b'A', b'Z', b)
 }
 
 pub fn is_digit(b: u8) -> bool
     ensures { λ r. ⌜ r ≡ is decimalDigit b ⌝ }
 {
-    match b {
-        b'0'..=b'9' => true,
-        _ => false,
-    }
+    between(b'0', b'9', b)
 }
 
-// A letter, a digit or the underscore.
+// A letter, a digit or the underscore. What ends a word is mostly below them all.
 pub(crate) fn is_alphanumeric(b: u8) -> bool
     ensures { λ r. ⌜ r ≡ within smallLetter decimalDigit (classOf b) ⌝ }
 {
-    is_in(0x3ff000000000000, 0x7fffffe87fffffe, b)
+    if b < b'0' {
+        return false;
+    }
+    if is_alphabetic(b) {
+        return true;
+    }
+    b <= b'9'
 }
 
 // # $ & * + - . / : < = > ? @ ^ ~ \
 pub(crate) fn is_graphic(b: u8) -> bool
     ensures { λ r. ⌜ r ≡ is graphicTokenChar b ⌝ }
 {
-    is_in(0xf400ec5800000000, 0x4000000050000001, b)
+    if between(b'*', b'/', b) {
+        return b != b',';
+    }
+    if between(b'<', b'@', b) {
+        return true;
+    }
+    if between(b'#', b'&', b) {
+        return b != b'%';
+    }
+    if between(b'\\', b'^', b) {
+        return b != b']';
+    }
+    if b == b':' {
+        return true;
+    }
+    b == b'~'
+}
+
+// Tab, newline and carriage return.
+fn is_layout_control(b: u8) -> bool
+    ensures { λ r. ⌜ r ≡ (ltb b space && is layoutChar b) ⌝ }
+{
+    if between(b'\t', b'\n', b) {
+        return true;
+    }
+    b == b'\r'
 }
 
 // Tab, newline, carriage return and space.
 pub fn is_layout(b: u8) -> bool
     ensures { λ r. ⌜ r ≡ is layoutChar b ⌝ }
 {
-    match b {
-        b'\t' => true,
-        b'\n' => true,
-        b'\r' => true,
-        b' ' => true,
-        _ => false,
+    if b == b' ' {
+        return true;
     }
+    is_layout_control(b)
 }
 
 pub(crate) fn is_quote(b: u8) -> bool
     ensures { λ r. ⌜ r ≡ is quoteChar b ⌝ }
 {
-    match b {
-        b'"' => true,
-        b'\'' => true,
-        b'`' => true,
-        _ => false,
+    if b'\'' < b {
+        return b == b'`';
     }
+    if b == b'"' {
+        return true;
+    }
+    b == b'\''
 }
 
 // In no class of ISO's: neither layout nor a printable byte.
 pub fn is_foreign(b: u8) -> bool
     ensures { λ r. ⌜ r ≡ is foreignByte b ⌝ }
 {
-    match b {
-        b'\t' => false,
-        b'\n' => false,
-        b'\r' => false,
-        b' '..=b'~' => false,
-        _ => true,
+    if between(b' ', b'~', b) {
+        return false;
     }
+    !is_layout_control(b)
 }

@@ -161,7 +161,9 @@ fn consume_layout(text: &[u8], cursor: Cursor) -> Layout
     match lookahead_char(text, at) {
         Look::Refused(fault) => Layout::Refused(fault),
         Look::Byte(b) => {
-            if is_layout(b) {
+            if b'/' < b {
+                Layout::Absent
+            } else if is_layout(b) {
                 Layout::To(skip_char(cursor, b))
             } else if b == b'%' {
                 layout_to(single_line_comment(text, skip_char(cursor, b)))

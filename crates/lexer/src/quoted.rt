@@ -1,6 +1,7 @@
 // Quoted items: escapes, and the text of a quoted token.
 use crate::chars::Look;
 use crate::chars::lookahead_char;
+use crate::classes::is_quote;
 use crate::cursor::Cursor;
 use crate::cursor::skip_along;
 use crate::cursor::skip_char;
@@ -28,22 +29,43 @@ pub enum Item {
     Refused(Fault),
 }
 
-// What an escape of one character stands for; 0 where there is none.
+const ALERT: u8 = 7;
+
+const BACKSPACE: u8 = 8;
+
+const VERTICAL_TAB: u8 = 11;
+
+const FORM_FEED: u8 = 12;
+
+// What an escape of one character stands for; 0 where there is none. The letters are tested in three groups: of more at once
+// the compiler would make a table.
 fn escape_char(b: u8) -> u8
     ensures { λ r. ⌜ r ≡ escapeOf b ⌝ }
 {
+    if is_quote(b) {
+        return b;
+    }
+    if b == b'\\' {
+        return b;
+    }
+    if b < b'f' {
+        return match b {
+            b'a' => ALERT,
+            b'b' => BACKSPACE,
+            _ => 0,
+        };
+    }
+    if b < b's' {
+        return match b {
+            b'f' => FORM_FEED,
+            b'n' => b'\n',
+            b'r' => b'\r',
+            _ => 0,
+        };
+    }
     match b {
-        b'a' => 7,
-        b'b' => 8,
-        b't' => 9,
-        b'n' => 10,
-        b'v' => 11,
-        b'f' => 12,
-        b'r' => 13,
-        b'\\' => b'\\',
-        b'\'' => b'\'',
-        b'"' => b'"',
-        b'`' => b'`',
+        b't' => b'\t',
+        b'v' => VERTICAL_TAB,
         _ => 0,
     }
 }

@@ -3,6 +3,7 @@ use crate::chars::Look;
 use crate::chars::Peek;
 use crate::chars::lookahead_char;
 use crate::chars::peek_char;
+use crate::classes::between;
 use crate::classes::is_alphabetic;
 use crate::classes::is_digit;
 use crate::classes::is_layout;
@@ -32,18 +33,22 @@ use crate::refusal::Refusal;
 ghost use mathlib.Core.Path.{_≡_};
 ghost use mathlib.Core.Bool.{true, false, cond};
 ghost use Prim.Native.Nat.{_+_, _<_};
+ghost use lib.Dec.{eqb};
 ghost use lib.ListN.{length};
+ghost use Rattle.lexer.specs.Chars.{singleQuote, doubleQuote};
 ghost use Rattle.lexer.specs.Cursor.{longest, Valid, moveTo};
 ghost use Rattle.lexer.specs.Refusal.{fault};
 ghost use Rattle.lexer.specs.declared.refusal.Refusal.the-variants.{NoToken, OutOfLimit};
 ghost use Rattle.lexer.specs.declared.token.Answer.{Answer};
 ghost use Rattle.lexer.specs.declared.token.Found.{Found};
+ghost use Rattle.lexer.specs.declared.token.Mark.{Mark};
+ghost use Rattle.lexer.specs.declared.kind.Kind.the-variants.{Name, String};
 ghost use Rattle.lexer.specs.declared.kind.Plain.{Plain};
 ghost use Rattle.lexer.specs.declared.kind.Value.{Value};
 ghost use Rattle.lexer.specs.Number.{numberToken};
 ghost use Rattle.lexer.specs.Quoted.{decode};
 ghost use Rattle.lexer.specs.Look.{lookahead};
-ghost use Rattle.lexer.specs.Token.{mark, barToken, endToken, valued, numbered, plainToken, plain, textOf, kept, plainLexeme, quotedTo, quotedLexeme, lexemeTo, readLexeme, answered, notValid, call, tokenHere, nextToken, nextNumberToken, spelledTo, found, At, AtDigit, Unmarked, Symbolic, Begins, Passing};
+ghost use Rattle.lexer.specs.Token.{mark, isMark, barToken, endToken, valued, numbered, plainToken, plain, textOf, kept, plainLexeme, quotedTo, quotedLexeme, lexemeTo, readLexeme, answered, notValid, call, tokenHere, nextToken, nextNumberToken, spelledTo, found, At, AtDigit, Unmarked, Symbolic, Begins, Passing};
 
 // A token, whose span ends where the cursor behind it stands.
 pub struct Token {
@@ -63,24 +68,55 @@ pub enum Mark {
     Other,
 }
 
+// ( ) , [ ] { }
+fn is_mark(b: u8) -> bool
+    ensures { λ r. ⌜ r ≡ isMark (mark false b) ⌝ }
+{
+    if between(b'(', b',', b) {
+        return !between(b'*', b'+', b);
+    }
+    if between(b'[', b']', b) {
+        return b != b'\\';
+    }
+    if between(b'{', b'}', b) {
+        return b != b'|';
+    }
+    false
+}
+
+// The kind of a mark. By the marks' order, so that the compiler chooses a value and makes no jump.
+fn mark_kind(b: u8, layout: bool) -> Kind
+    requires { ⌜ isMark (mark false b) ≡ true ⌝ }
+    ensures { λ r. ⌜ Mark.Is r ≡ mark layout b ⌝ }
+{
+    if b < b')' {
+        return if layout { Kind::Open } else { Kind::OpenCT };
+    }
+    if b < b',' {
+        return Kind::Close;
+    }
+    if b < b'[' {
+        return Kind::Comma;
+    }
+    if b < b']' {
+        return Kind::OpenList;
+    }
+    if b < b'{' {
+        return Kind::CloseList;
+    }
+    if b < b'}' {
+        return Kind::OpenCurly;
+    }
+    Kind::CloseCurly
+}
+
 fn mark_of(b: u8, layout: bool) -> Mark
     ensures { λ r. ⌜ r ≡ mark layout b ⌝ }
 {
-    match b {
-        b'(' => {
-            if layout {
-                Mark::Is(Kind::Open)
-            } else {
-                Mark::Is(Kind::OpenCT)
-            }
-        }
-        b')' => Mark::Is(Kind::Close),
-        b'[' => Mark::Is(Kind::OpenList),
-        b']' => Mark::Is(Kind::CloseList),
-        b'{' => Mark::Is(Kind::OpenCurly),
-        b'}' => Mark::Is(Kind::CloseCurly),
-        b',' => Mark::Is(Kind::Comma),
-        _ => Mark::Other,
+    if is_mark(b) {
+        Mark::Is(mark_kind(b, layout))
+    } else {
+        Mark::Other
     }
 }
 
@@ -368,17 +404,33 @@ fn no_token(at: usize) -> Found
     })
 }
 
-// The token at the cursor that begins with the quote `b`.
+// What a single or a double quote begins.
+fn quoted_kind(b: u8) -> Kind
+    ensures { λ r. ⌜ r ≡ cond (eqb b singleQuote) Name String ⌝ }
+{
+    if b == b'\'' { Kind::Name } else { Kind::String }
+}
+
+// A back quote begins no token, and a field takes no string.
+fn is_quote_taken(field: bool, b: u8) -> bool
+    ensures { λ r. ⌜ r ≡ cond (eqb b singleQuote) true (cond field false (eqb b doubleQuote)) ⌝ }
+{
+    if b == b'\'' {
+        return true;
+    }
+    if field {
+        return false;
+    }
+    b == b'"'
+}
+
+// The token at the cursor that begins with the quote `b`. One call serves both quotes: the kind is chosen without a branch.
 fn quoted_found(text: &[u8], c: Cursor, field: bool, b: u8) -> Found
     requires { ⌜ Begins (now text) c b ⌝ }
     ensures { λ r. ⌜ r ≡ found (now (text .entry)) c (quotedLexeme field (now (text .entry)) (c .offset) b) ⌝ }
 {
-    if b == b'\'' {
-        quoted_token(text, c, b'\'', Kind::Name)
-    } else if field {
-        no_token(c.offset)
-    } else if b == b'"' {
-        quoted_token(text, c, b'"', Kind::String)
+    if is_quote_taken(field, b) {
+        quoted_token(text, c, b, quoted_kind(b))
     } else {
         no_token(c.offset)
     }

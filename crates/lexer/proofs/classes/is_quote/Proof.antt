@@ -1,43 +1,45 @@
--- `lexer::classes::is_quote` meets its contract: that these are the members is one test over all bytes. Assumes nothing.
-use Prim.Native.Nat.{ℕ, _<_}
-use mathlib.Core.Path.{_≡_, sym, _∙_}
-use mathlib.Core.Bool.{Bool, false}
-use mathlib.Core.List.{[], _∷_}
+-- `lexer::classes::is_quote` meets its contract: one test over all bytes, which antt computes. Assumes nothing.
+use Prim.Native.Nat.{ℕ, _<_, _≤_}
+use mathlib.Core.Path.{_≡_}
+use mathlib.Core.Bool.{Bool, true, cond}
 use borrow.Author.Needs.{needs}
-use borrow.Author.Tests.{ne-eqb}
-use Rattle.lexer.specs.Chars.{classOf, is, among, quoteChar, doubleQuote, singleQuote, backQuote}
+use borrow.Author.Tests.{lt-ltb, le-ltb, ne-eqb}
+use lib.Dec.{ltb, eqb}
+use Rattle.lexer.specs.Chars.{classOf, is, quoteChar, doubleQuote, singleQuote, backQuote}
 use Rattle.lexer.proofs.Table.{agreed}
 use Rattle.lexer.proofs.classes.is_quote.Statement.{statement}
 use Rattle.lexer.proofs.classes.is_quote.Tie as tie
 
-module _ (b : ℕ) where
-  key : (n : ℕ) (r : Bool) → b ≡ n → r ≡ is quoteChar n → r ≡ is quoteChar b
-  key n r e f = cc
+-- what the code tests
+abbrev tested : ℕ → Bool
+tested x = cond (ltb singleQuote x) (eqb x backQuote) (cond (eqb x doubleQuote) true (eqb x singleQuote))
 
-  other : b < 256 → (b ≡ doubleQuote → ⊥) → (b ≡ singleQuote → ⊥) → (b ≡ backQuote → ⊥) → false ≡ is quoteChar b
+module _ (b : ℕ) (h : b < 256) where
+  rule : tested b ≡ is quoteChar b
   unfolding classOf
-  other h a₁ a₂ a₃ =
-      let e : among b (singleQuote ∷ doubleQuote ∷ backQuote ∷ []) ≡ false = simp (ne-eqb _ _ a₁, ne-eqb _ _ a₂, ne-eqb _ _ a₃) in
-      sym e ∙ agreed (λ x. among x (singleQuote ∷ doubleQuote ∷ backQuote ∷ [])) (is quoteChar) 256 tt b h
+  rule = agreed tested (is quoteChar) 256 tt b h
 
-ruleset ways = (key, other, needs)
+  above : singleQuote < b → eqb b backQuote ≡ is quoteChar b
+  above l = cc (rule, lt-ltb singleQuote b l)
+
+  module _ (l : b ≤ singleQuote) where
+    double : b ≡ doubleQuote → true ≡ is quoteChar b
+    double e = cc (rule, le-ltb singleQuote b l)
+
+    single : (b ≡ doubleQuote → ⊥) → eqb b singleQuote ≡ is quoteChar b
+    single n = cc (rule, le-ltb singleQuote b l, ne-eqb b doubleQuote n)
+
+ruleset ways = (above, double, single, needs)
 
 -- answers
 returns : tie.Need-returns
-unfolding classOf
 returns c = search ways
 
 returns-2 : tie.Need-returns-2
-unfolding classOf
 returns-2 c = search ways
 
 returns-3 : tie.Need-returns-3
-unfolding classOf
 returns-3 c = search ways
 
-returns-4 : tie.Need-returns-4
-unfolding classOf
-returns-4 c = search ways
-
 pub is-quote-spec : {M : Type 1} → statement M
-is-quote-spec = tie.close (tie.spec returns returns-2 returns-3 returns-4)
+is-quote-spec = tie.close (tie.spec returns returns-2 returns-3)

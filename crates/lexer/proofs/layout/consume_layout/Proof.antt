@@ -1,13 +1,14 @@
 -- `lexer::layout::consume_layout` meets its contract. Assumes nothing.
 use Prim.Native.Nat.{ℕ, _+_, _<_}
 use mathlib.Core.Path.{_≡_, refl, sym, _∙_, ap}
-use mathlib.Core.Bool.{Bool, true, false}
+use mathlib.Core.Bool.{Bool, true, false, _&&_}
 use mathlib.Core.List.{List}
 use native.Mathlib.Omega.{arith}
 use borrow.Author.Needs.{needs}
-use borrow.Author.Tests.{eq-eqb, ne-eqb}
+use borrow.Author.Tests.{eq-eqb, ne-eqb, lt-ltb}
+use lib.Dec.{ltb}
 use lib.ListN.{length}
-use Rattle.lexer.specs.Chars.{is, layoutChar, percent, slash}
+use Rattle.lexer.specs.Chars.{classOf, is, layoutChar, percent, slash}
 use Rattle.lexer.specs.Cursor.{step, Valid, Movable}
 use Rattle.lexer.specs.Layout.{singleLineComment, slashed, layoutTextOf, layoutText, moved, stepped, layoutTo, Slash}
 use Rattle.lexer.specs.Look.{lookahead}
@@ -20,6 +21,7 @@ use Rattle.lexer.proofs.Cursors.{movable, step-valid, move-here, move-s
 use Rattle.lexer.proofs.Layouts.{line-ends, stepped-ahead}
 use Rattle.lexer.proofs.Looks.{Seen, look-byte}
 use Rattle.lexer.proofs.Scans.{moved-step}
+use Rattle.lexer.proofs.Table.{agreed}
 use Rattle.lexer.proofs.layout.consume_layout.Statement.{statement}
 use Rattle.lexer.proofs.layout.consume_layout.Tie as tie
 
@@ -42,6 +44,13 @@ module _ (s : List ℕ) (c : Cursor) (r : Look) (e : r ≡ lookahead s (c .offse
 
       at-slash : b ≡ slash → Slash s c
       at-slash n = record { valid = v; slash-there = sym e ∙ q ∙ ap Look.Byte n }
+
+    -- no layout begins above the slash: one test over all bytes, which antt computes
+    above : b < 256 → slash < b → Layout.Absent ≡ stepped s c (layoutText s (c .offset))
+    unfolding layoutTextOf stepped classOf
+    above h l =
+        let i : is layoutChar b ≡ false = sym (cc (lt-ltb slash b l)) ∙ agreed (λ x. ltb slash x && is layoutChar x) (λ x. false) 256 tt b h in
+        cc (i, ne-eqb b percent (λ z. omega arith), ne-eqb b slash (λ z. omega arith), eq-eqb (c .offset) (c .offset) refl)
 
     module _ (t : Bool) (g : t ≡ is layoutChar b) where
       blank : (d : Cursor) → t ≡ true → d ≡ step c b → Layout.To d ≡ stepped s c (layoutText s (c .offset))
@@ -68,7 +77,7 @@ module _ (s : List ℕ) (c : Cursor) (r : Look) (e : r ≡ lookahead s (c .offse
         unfolding layoutTextOf stepped
         none o p = cc (ne-eqb b percent o, ne-eqb b slash p, eq-eqb (c .offset) (c .offset) refl)
 
-ruleset ways = (refused, can-skip, in-comment, at-slash, blank, line, comment, none, needs)
+ruleset ways = (refused, can-skip, in-comment, at-slash, above, blank, line, comment, none, needs)
 
 -- answers
 lookahead-char-requires : tie.Need-lookahead-char-requires
@@ -113,6 +122,9 @@ returns-4 c = search ways
 returns-5 : tie.Need-returns-5
 returns-5 c = search ways
 
+returns-6 : tie.Need-returns-6
+returns-6 c = search ways
+
 pub consume-layout-spec : {M : Type 1} → statement M
 consume-layout-spec =
     tie.close
@@ -130,4 +142,5 @@ consume-layout-spec =
     returns-2
     returns-3
     returns-4
-    returns-5)
+    returns-5
+    returns-6)

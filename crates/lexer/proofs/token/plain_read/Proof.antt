@@ -5,30 +5,25 @@ use mathlib.Core.Bool.{Bool, true, false, cond, _&&_}
 use mathlib.Core.List.{List}
 use borrow.Author.Needs.{needs}
 use borrow.Author.Tests.{eqb-true, ne-eqb}
-use lib.Dec.{eqb}
 use native.Mathlib.Omega.{arith}
-use Rattle.lexer.specs.Chars.{classOf, is, soloChar, cut, openParen, semicolon}
+use Rattle.lexer.specs.Chars.{classOf, is, soloChar, cut, semicolon}
 use Rattle.lexer.specs.Cursor.{longest}
 use Rattle.lexer.specs.Name.{nameToken}
 use Rattle.lexer.specs.Refusal.{fault}
-use Rattle.lexer.specs.Token.{mark, soloTo, plainToken, plainNumber, plain, At, Unmarked}
+use Rattle.lexer.specs.Token.{mark, isMark, soloTo, plainToken, plainNumber, plain, At, Unmarked}
 use Rattle.lexer.specs.declared.refusal.Refusal.the-variants.{NoToken}
 use Rattle.lexer.specs.declared.kind.Kind.{Kind}
-use Rattle.lexer.specs.declared.kind.Kind.the-variants.{Open, OpenCT}
 use Rattle.lexer.specs.declared.kind.Value.the-variants.{Nothing}
 use Rattle.lexer.specs.declared.kind.Plain.{Plain}
 use Rattle.lexer.specs.declared.kind.Plain.the-variants.{Whole, Refused}
 use Rattle.lexer.specs.declared.token.Mark.{Mark}
 use Rattle.lexer.proofs.Looks.{look-byte}
+use Rattle.lexer.proofs.Marks.{bare}
 use Rattle.lexer.proofs.Table.{agreed}
 use Rattle.lexer.proofs.token.plain_read.Statement.{statement}
 use Rattle.lexer.proofs.token.plain_read.Tie as tie
 
 -- ---- the bytes that are marks
-abbrev isMark : Mark → Bool
-isMark (Mark.Is k) = true
-isMark Mark.Other = false
-
 abbrev marks : Bool → ℕ → Bool
 marks t x = isMark (mark t x)
 
@@ -41,17 +36,6 @@ solo false b h = agreed (marks false) (λ x. marks false x && is soloChar x) 256
 -- and none is the character n, if that is none
 apart : (t : Bool) (b n : ℕ) (k : Kind) → mark t b ≡ Mark.Is k → mark t n ≡ Mark.Other → b ≡ n → ⊥
 apart t b n k e f g = let z : _≡_ {A = ℕ} 0 1 = cc in absurd (omega arith)
-
--- a parenthesis is a mark with or without layout before it
-paren : (t e : Bool) (m : Mark) → cond e (cond t (Mark.Is Open) (Mark.Is OpenCT)) m ≡ Mark.Other → cond e (Mark.Is OpenCT) m ≡ Mark.Other
-paren t false m h = h
-paren true true m h = cc
-paren false true m h = h
-
--- so a byte that is no mark is none without layout either
-bare : (t : Bool) (b : ℕ) → mark t b ≡ Mark.Other → mark false b ≡ Mark.Other
-unfolding mark
-bare t b e = paren t (eqb b openParen) _ e
 
 -- ---- the ways out, over plain values: m is the mark that b is, p is what was read
 module _ (s : List ℕ) (at : ℕ) (t field : Bool) (b : ℕ) (w : At s at b) where

@@ -1,62 +1,71 @@
 -- `lexer::token::quoted_found` meets its contract. Assumes nothing.
 use Prim.Native.Nat.{ℕ, _+_}
-use mathlib.Core.Path.{_≡_, _∙_, ap}
-use mathlib.Core.Bool.{Bool, true, false}
+use mathlib.Core.Path.{_≡_, refl, sym, _∙_}
+use mathlib.Core.Bool.{Bool, true, false, cond, true≢false}
 use mathlib.Core.List.{List}
 use borrow.Author.Needs.{needs}
-use borrow.Author.Tests.{ne-eqb}
+use borrow.Author.Tests.{eqb-true}
+use lib.Dec.{eqb}
 use Rattle.lexer.specs.Chars.{singleQuote, doubleQuote}
 use Rattle.lexer.specs.Quoted.{decode}
 use Rattle.lexer.specs.Refusal.{fault}
-use Rattle.lexer.specs.Token.{quotedTo, quotedLexeme, found, Begins}
+use Rattle.lexer.specs.Token.{quotedTo, quotedLexeme, found}
 use Rattle.lexer.specs.declared.refusal.Refusal.the-variants.{NoToken}
-use Rattle.lexer.specs.declared.chars.Look.{Look}
 use Rattle.lexer.specs.declared.cursor.Cursor.{Cursor}
+use Rattle.lexer.specs.declared.kind.Kind.{Kind}
 use Rattle.lexer.specs.declared.kind.Kind.the-variants.{Name, String}
 use Rattle.lexer.specs.declared.token.Found.{Found}
 use Rattle.lexer.proofs.token.quoted_found.Statement.{statement}
 use Rattle.lexer.proofs.token.quoted_found.Tie as tie
 
+-- p and q say whether the quote is a single or a double one
+abbrev taken : Bool → Bool → Bool → Bool
+taken field p q = cond p true (cond field false q)
+
 module _ (s : List ℕ) (c : Cursor) (b : ℕ) where
-  begins-single : Begins s c b → b ≡ singleQuote → Begins s c singleQuote
-  begins-single w e = record { valid = w .valid; there = w .there ∙ ap Look.Byte e }
+  abbrev due : Bool → Found
+  due field = found s c (quotedLexeme field s (c .offset) b)
 
-  begins-double : Begins s c b → b ≡ doubleQuote → Begins s c doubleQuote
-  begins-double w e = record { valid = w .valid; there = w .there ∙ ap Look.Byte e }
+  abbrev read : Kind → Found
+  read k = found s c (quotedTo k (c .offset) (decode b (c .offset) s (c .offset + 1)))
 
-  module _ (field : Bool) (r : Found) where
-    name : b ≡ singleQuote → r ≡ found s c (quotedTo Name (c .offset) (decode singleQuote (c .offset) s (c .offset + 1))) → r ≡ found s c (quotedLexeme field s (c .offset) b)
-    unfolding quotedLexeme
-    name e f = cc
+  by-quote : (field p q : Bool) → eqb b singleQuote ≡ p → eqb b doubleQuote ≡ q → taken field p q ≡ true → read (cond p Name String) ≡ due field
+  unfolding quotedLexeme
+  by-quote field true q e f g = cc (eqb-true b singleQuote e)
+  by-quote true false q e f g = absurd (true≢false (sym g))
+  by-quote false false true e f g = cc (eqb-true b doubleQuote f)
+  by-quote false false false e f g = absurd (true≢false (sym g))
 
-    module _ (g : b ≡ singleQuote → ⊥) where
-      in-field : field ≡ true → r ≡ Found.Refused (fault NoToken (c .offset)) → r ≡ found s c (quotedLexeme field s (c .offset) b)
-      unfolding quotedLexeme found
-      in-field e f = cc (ne-eqb b singleQuote g)
+  by-none : (field p q : Bool) → eqb b singleQuote ≡ p → eqb b doubleQuote ≡ q → taken field p q ≡ false → Found.Refused (fault NoToken (c .offset)) ≡ due field
+  unfolding quotedLexeme found
+  by-none field true q e f g = absurd (true≢false g)
+  by-none true false q e f g = cc
+  by-none false false true e f g = absurd (true≢false g)
+  by-none false false false e f g = cc
 
-      module _ (e : field ≡ false) where
-        string : b ≡ doubleQuote → r ≡ found s c (quotedTo String (c .offset) (decode doubleQuote (c .offset) s (c .offset + 1))) → r ≡ found s c (quotedLexeme field s (c .offset) b)
-        unfolding quotedLexeme
-        string h f = cc (ne-eqb b singleQuote g)
+  module _ (field t : Bool) (e : t ≡ taken field (eqb b singleQuote) (eqb b doubleQuote)) (r : Found) where
+    quoted : (k : Kind) → t ≡ true → k ≡ cond (eqb b singleQuote) Name String → r ≡ read k → r ≡ due field
+    quoted k f g h =
+        let i = by-quote field (eqb b singleQuote) (eqb b doubleQuote) refl refl (sym e ∙ f) in
+        cc (g, h, i)
 
-        none : (b ≡ doubleQuote → ⊥) → r ≡ Found.Refused (fault NoToken (c .offset)) → r ≡ found s c (quotedLexeme field s (c .offset) b)
-        unfolding quotedLexeme found
-        none h f = cc (ne-eqb b singleQuote g, ne-eqb b doubleQuote h)
+    none : t ≡ false → r ≡ Found.Refused (fault NoToken (c .offset)) → r ≡ due field
+    none f h = h ∙ by-none field (eqb b singleQuote) (eqb b doubleQuote) refl refl (sym e ∙ f)
 
-ruleset ways = (begins-single, begins-double, name, in-field, string, none, needs)
+ruleset ways = (quoted, none, needs)
 
 -- answers
+is-quote-taken-requires : tie.Need-is-quote-taken-requires
+is-quote-taken-requires c κs = search ways
+
+quoted-kind-requires : tie.Need-quoted-kind-requires
+quoted-kind-requires c κs = search ways
+
 quoted-token-requires : tie.Need-quoted-token-requires
 quoted-token-requires c κs = search ways
 
 no-token-requires : tie.Need-no-token-requires
 no-token-requires c κs = search ways
-
-quoted-token-requires-2 : tie.Need-quoted-token-requires-2
-quoted-token-requires-2 c κs = search ways
-
-no-token-requires-2 : tie.Need-no-token-requires-2
-no-token-requires-2 c κs = search ways
 
 returns : tie.Need-returns
 returns c = search ways
@@ -64,21 +73,13 @@ returns c = search ways
 returns-2 : tie.Need-returns-2
 returns-2 c = search ways
 
-returns-3 : tie.Need-returns-3
-returns-3 c = search ways
-
-returns-4 : tie.Need-returns-4
-returns-4 c = search ways
-
 pub quoted-found-spec : {M : Type 1} → statement M
 quoted-found-spec =
     tie.close
     (tie.spec
+    is-quote-taken-requires
+    quoted-kind-requires
     quoted-token-requires
     no-token-requires
-    quoted-token-requires-2
-    no-token-requires-2
     returns
-    returns-2
-    returns-3
-    returns-4)
+    returns-2)
