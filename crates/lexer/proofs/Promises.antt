@@ -88,7 +88,7 @@ PlainEnds s at (Plain.Whole k v e) = Ending s at e
 PlainEnds s at (Plain.Refused w) = Unit {0}
 
 -- a run, perhaps empty, of bytes that are no layout
-abbrev Run : List ℕ → ℕ → Scan → Type 0
+abbrev pub Run : List ℕ → ℕ → Scan → Type 0
 Run s at (Stop e) = (at ≤ e) × ((e ≤ length s) × NoNewline s at e)
 Run s at (Refused w) = Unit {0}
 
@@ -106,7 +106,7 @@ module _ (s : List ℕ) where
         (λ t. longer at (runEnd lo hi (at + 1) (drop (at + 1) s)) (no-newline (getD s at 0) _ refl (λ k. let m = leb-true _ hi (both (leb lo (classOf (getD s at 0))) _ t .1) in omega arith)) p)
         (λ t. by-test (Run s at) (eqb (classOf (getD s at 0)) foreignByte) _ _ (λ _. tt) (λ _. (omega arith, (omega arith, λ i p q. absurd (omega arith)))))
 
-    run : (n at : ℕ) → length s - at ≤ n → Run s at (runEnd lo hi at (drop at s))
+    pub run : (n at : ℕ) → length s - at ≤ n → Run s at (runEnd lo hi at (drop at s))
     unfolding runEnd
     run zero at h = ⊎-elim (λ l. rw (drop-end s at l) tt) (λ l. absurd (omega arith)) (inside-or-not s at)
     run (suc n) at h = ⊎-elim (λ l. rw (drop-end s at l) tt) (λ l. rw (drop-at s at l) (turn at l (run n (at + 1) (omega arith)))) (inside-or-not s at)

@@ -249,15 +249,15 @@ pub record AtDigit (s : List ℕ) (at : ℕ) : Type 0 where
   pub at-digit : At s at digit
   pub decimal : isDigit 10 digit ≡ true
 
--- and it is no mark
+-- and it is no mark, no letter and not the underscore
 pub record Unmarked (s : List ℕ) (at x : ℕ) : Type 0 where
   pub at-byte : At s at x
   pub unmarked : mark false x ≡ Mark.Other
+  pub no-letter : within smallLetter underscoreChar (classOf x) ≡ false
 
--- nor a letter, the underscore or a digit
+-- nor a digit
 pub record Symbolic (s : List ℕ) (at x : ℕ) : Type 0 where
   pub at-unmarked : Unmarked s at x
-  pub no-letter : within smallLetter underscoreChar (classOf x) ≡ false
   pub no-digit : is decimalDigit x ≡ false
 
 -- a valid cursor at the byte x

@@ -18,17 +18,21 @@ pub(crate) fn is_small(b: u8) -> bool
     between(b'a', b'z', b)
 }
 
-// A letter or the underscore, which is one range with the small letters, but for the back quote between them.
+// A letter or the underscore, which is one range with the small letters but for the back quote between them. All marks but the
+// brackets are below them.
 pub(crate) fn is_alphabetic(b: u8) -> bool
     ensures { λ r. ⌜ r ≡ within smallLetter underscoreChar (classOf b) ⌝ }
 {
+    if b < b'A' {
+        return false;
+    }
     if b == b'`' {
         return false;
     }
     if between(b'_', b'z', b) {
         return true;
     }
-    between(b'A', b'Z', b)
+    b <= b'Z'
 }
 
 pub fn is_digit(b: u8) -> bool
@@ -37,17 +41,20 @@ pub fn is_digit(b: u8) -> bool
     between(b'0', b'9', b)
 }
 
-// A letter, a digit or the underscore. What ends a word is mostly below them all.
+// A letter, a digit or the underscore; first what words have most of.
 pub(crate) fn is_alphanumeric(b: u8) -> bool
     ensures { λ r. ⌜ r ≡ within smallLetter decimalDigit (classOf b) ⌝ }
 {
-    if b < b'0' {
+    if b == b'`' {
         return false;
     }
-    if is_alphabetic(b) {
+    if between(b'_', b'z', b) {
         return true;
     }
-    b <= b'9'
+    if is_digit(b) {
+        return true;
+    }
+    between(b'A', b'Z', b)
 }
 
 // # $ & * + - . / : < = > ? @ ^ ~ \
@@ -57,17 +64,14 @@ pub(crate) fn is_graphic(b: u8) -> bool
     if between(b'*', b'/', b) {
         return b != b',';
     }
-    if between(b'<', b'@', b) {
-        return true;
+    if between(b':', b'@', b) {
+        return b != b';';
     }
     if between(b'#', b'&', b) {
         return b != b'%';
     }
     if between(b'\\', b'^', b) {
         return b != b']';
-    }
-    if b == b':' {
-        return true;
     }
     b == b'~'
 }

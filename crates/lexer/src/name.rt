@@ -13,6 +13,8 @@ ghost use mathlib.Core.Path.{_≡_};
 ghost use Prim.Native.Nat.{_+_, _<_};
 ghost use lib.ListN.{length};
 ghost use Rattle.lexer.specs.Chars.{classOf};
+ghost use Rattle.lexer.specs.Look.{lookahead};
+ghost use Rattle.lexer.specs.declared.chars.Look.{Look};
 ghost use Rattle.lexer.specs.declared.kind.Kind.the-variants.{Name};
 ghost use Rattle.lexer.specs.declared.kind.Value.the-variants.{Nothing};
 ghost use Rattle.lexer.specs.declared.kind.Plain.{Plain};
@@ -84,7 +86,7 @@ fn run_token(kind: Kind, run: Scan) -> Plain
     }
 }
 
-// A name of one character, which ends at `end`.
+// A name that ends at `end`.
 fn single_name(end: usize) -> Plain
     ensures { λ r. ⌜ r ≡ Plain.Whole Name Nothing end ⌝ }
 {
@@ -151,14 +153,19 @@ pub(crate) fn word_token(text: &[u8], at: usize, field: bool, b: u8) -> Plain
     }
 }
 
-// The name that begins with `b`, at `at`, which is no small letter.
+// The name that begins with `b`, at `at`, which is no small letter. Whether `b` is graphic, the run itself tells.
 pub(crate) fn symbol_name(text: &[u8], at: usize, b: u8) -> Plain
-    requires { ⌜ at < length (now text) ⌝ }
+    requires { ⌜ lookahead (now text) at ≡ Look.Byte b ⌝ }
     ensures { λ r. ⌜ r ≡ symbolName (now (text .entry)) at b ⌝ }
 {
-    if is_graphic(b) {
-        graphic_token(text, at)
-    } else {
-        solo_name(at, at + 1, b)
+    match graphic_end(text, at) {
+        Scan::Refused(fault) => Plain::Refused(fault),
+        Scan::Stop(end) => {
+            if end == at {
+                solo_name(at, at + 1, b)
+            } else {
+                single_name(end)
+            }
+        }
     }
 }

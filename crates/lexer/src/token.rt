@@ -250,14 +250,12 @@ fn plain_token(text: &[u8], at: usize, b: u8) -> Plain
     }
 }
 
-// The token at `at` that begins with `b`, which is no mark.
+// The token at `at` that begins with `b`, which is no mark and begins no word.
 fn unmarked_token(text: &[u8], at: usize, field: bool, b: u8) -> Plain
     requires { ⌜ Unmarked (now text) at b ⌝ }
     ensures { λ r. ⌜ r ≡ plain field (now (text .entry)) at false b ⌝ }
 {
-    if is_alphabetic(b) {
-        word_token(text, at, field, b)
-    } else if is_digit(b) {
+    if is_digit(b) {
         whole_number(text, at, field)
     } else if field {
         symbol_name(text, at, b)
@@ -281,11 +279,14 @@ fn mark_token(kind: Kind, at: usize, field: bool) -> Plain
     }
 }
 
-// The token at `at` that begins with `b` and is not quoted. Marks come first: they are half of all tokens.
+// The token at `at` that begins with `b` and is not quoted. Words and marks come first: they are nearly all tokens.
 fn plain_read(text: &[u8], at: usize, layout: bool, field: bool, b: u8) -> Plain
     requires { ⌜ At (now text) at b ⌝ }
     ensures { λ r. ⌜ r ≡ plain field (now (text .entry)) at layout b ⌝ }
 {
+    if is_alphabetic(b) {
+        return word_token(text, at, field, b);
+    }
     match mark_of(b, layout) {
         Mark::Is(kind) => mark_token(kind, at, field),
         Mark::Other => unmarked_token(text, at, field, b),

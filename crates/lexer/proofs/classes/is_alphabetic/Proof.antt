@@ -1,10 +1,10 @@
 -- `lexer::classes::is_alphabetic` meets its contract: one test over all bytes, which antt computes. Assumes nothing.
-use Prim.Native.Nat.{ℕ, _<_}
+use Prim.Native.Nat.{ℕ, _<_, _≤_}
 use mathlib.Core.Path.{_≡_}
 use mathlib.Core.Bool.{Bool, true, false, cond}
 use borrow.Author.Needs.{needs}
-use borrow.Author.Tests.{ne-eqb}
-use lib.Dec.{eqb}
+use borrow.Author.Tests.{lt-ltb, le-ltb, ne-eqb}
+use lib.Dec.{leb, ltb, eqb}
 use Rattle.lexer.specs.Chars.{classOf, within, smallLetter, underscoreChar, smallZ, capitalA, capitalZ, underscore, backQuote}
 use Rattle.lexer.proofs.Table.{agreed}
 use Rattle.lexer.proofs.classes.is_alphabetic.Statement.{statement}
@@ -12,7 +12,7 @@ use Rattle.lexer.proofs.classes.is_alphabetic.Tie as tie
 
 -- what the code tests
 abbrev tested : ℕ → Bool
-tested x = cond (eqb x backQuote) false (cond (within underscore smallZ x) true (within capitalA capitalZ x))
+tested x = cond (ltb x capitalA) false (cond (eqb x backQuote) false (cond (within underscore smallZ x) true (leb x capitalZ)))
 
 abbrev due : ℕ → Bool
 due x = within smallLetter underscoreChar (classOf x)
@@ -22,34 +22,37 @@ module _ (b : ℕ) (h : b < 256) where
   unfolding classOf
   rule = agreed tested due 256 tt b h
 
-  back : b ≡ backQuote → false ≡ due b
-  back e = cc rule
+  below : b < capitalA → false ≡ due b
+  below l = cc (rule, lt-ltb b capitalA l)
 
-  module _ (n : b ≡ backQuote → ⊥) (r : Bool) (e : r ≡ within underscore smallZ b) where
-    small : r ≡ true → true ≡ due b
-    small f = cc (rule, ne-eqb b backQuote n)
+  module _ (l : capitalA ≤ b) where
+    back : b ≡ backQuote → false ≡ due b
+    back e = cc (rule, le-ltb b capitalA l)
 
-    capital : (s : Bool) → r ≡ false → s ≡ within capitalA capitalZ b → s ≡ due b
-    capital s f g = cc (rule, ne-eqb b backQuote n)
+    module _ (n : b ≡ backQuote → ⊥) (r : Bool) (e : r ≡ within underscore smallZ b) where
+      small : r ≡ true → true ≡ due b
+      small f = cc (rule, le-ltb b capitalA l, ne-eqb b backQuote n)
 
-ruleset ways = (back, small, capital, needs)
+      capital : r ≡ false → leb b capitalZ ≡ due b
+      capital f = cc (rule, le-ltb b capitalA l, ne-eqb b backQuote n)
+
+ruleset ways = (below, back, small, capital, needs)
 
 -- answers
 returns : tie.Need-returns
 returns c = search ways
 
-between-requires : tie.Need-between-requires
-between-requires c κs = search ways
-
 returns-2 : tie.Need-returns-2
 returns-2 c = search ways
 
-between-requires-2 : tie.Need-between-requires-2
-between-requires-2 c κs = search ways
+between-requires : tie.Need-between-requires
+between-requires c κs = search ways
 
 returns-3 : tie.Need-returns-3
 returns-3 c = search ways
 
+returns-4 : tie.Need-returns-4
+returns-4 c = search ways
+
 pub is-alphabetic-spec : {M : Type 1} → statement M
-is-alphabetic-spec =
-    tie.close (tie.spec returns between-requires returns-2 between-requires-2 returns-3)
+is-alphabetic-spec = tie.close (tie.spec returns returns-2 between-requires returns-3 returns-4)

@@ -3,21 +3,20 @@ use Prim.Native.Nat.{ℕ, _<_}
 use mathlib.Core.Path.{_≡_}
 use mathlib.Core.Bool.{Bool, true, false, cond, not}
 use borrow.Author.Needs.{needs}
-use borrow.Author.Tests.{ne-eqb}
 use lib.Dec.{eqb}
-use Rattle.lexer.specs.Chars.{classOf, is, within, graphicTokenChar, star, slash, comma, percent, backslash, closeBracket}
+use Rattle.lexer.specs.Chars.{classOf, is, within, graphicTokenChar, star, slash, comma, semicolon, percent, backslash, closeBracket}
 use Rattle.lexer.proofs.Table.{agreed}
 use Rattle.lexer.proofs.classes.is_graphic.Statement.{statement}
 use Rattle.lexer.proofs.classes.is_graphic.Tie as tie
 
--- what the code tests: * to / but the comma, < to @, # to & but the percent sign, \ to ^ but the bracket, the colon and the tilde
+-- what the code tests: * to / but the comma, : to @ but the semicolon, # to & but the percent sign, \ to ^ but the bracket, and the tilde
 abbrev tested : ℕ → Bool
 tested x =
     cond (within star slash x) (not (eqb x comma))
-    (cond (within 60 64 x) true
+    (cond (within 58 64 x) (not (eqb x semicolon))
     (cond (within 35 38 x) (not (eqb x percent))
     (cond (within backslash 94 x) (not (eqb x closeBracket))
-    (cond (eqb x 58) true (eqb x 126)))))
+    (eqb x 126))))
 
 abbrev due : ℕ → Bool
 due x = is graphicTokenChar x
@@ -31,8 +30,8 @@ module _ (b : ℕ) (h : b < 256) where
     first : r ≡ true → not (eqb b comma) ≡ due b
     first f = cc rule
 
-    module _ (f : r ≡ false) (s : Bool) (g : s ≡ within 60 64 b) where
-      second : s ≡ true → true ≡ due b
+    module _ (f : r ≡ false) (s : Bool) (g : s ≡ within 58 64 b) where
+      second : s ≡ true → not (eqb b semicolon) ≡ due b
       second k = cc rule
 
       module _ (k : s ≡ false) (t : Bool) (l : t ≡ within 35 38 b) where
@@ -43,14 +42,10 @@ module _ (b : ℕ) (h : b < 256) where
           fourth : u ≡ true → not (eqb b closeBracket) ≡ due b
           fourth o = cc rule
 
-          module _ (o : u ≡ false) where
-            colon : b ≡ 58 → true ≡ due b
-            colon p = cc rule
+          tilde : u ≡ false → eqb b 126 ≡ due b
+          tilde o = cc rule
 
-            tilde : (b ≡ 58 → ⊥) → eqb b 126 ≡ due b
-            tilde p = cc (rule, ne-eqb b 58 p)
-
-ruleset ways = (first, second, third, fourth, colon, tilde, needs)
+ruleset ways = (first, second, third, fourth, tilde, needs)
 
 -- answers
 between-requires : tie.Need-between-requires
@@ -80,9 +75,6 @@ returns-4 c = search ways
 returns-5 : tie.Need-returns-5
 returns-5 c = search ways
 
-returns-6 : tie.Need-returns-6
-returns-6 c = search ways
-
 pub is-graphic-spec : {M : Type 1} → statement M
 is-graphic-spec =
     tie.close
@@ -95,5 +87,4 @@ is-graphic-spec =
     returns-3
     between-requires-4
     returns-4
-    returns-5
-    returns-6)
+    returns-5)

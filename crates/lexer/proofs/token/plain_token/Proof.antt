@@ -7,8 +7,10 @@ use borrow.Author.Needs.{needs}
 use borrow.Author.Tests.{ne-eqb}
 use lib.ListN.{length}
 use Rattle.lexer.specs.Chars.{classOf, is, within, smallLetter, capitalLetter, underscoreChar, soloChar, point, bar}
+use Rattle.lexer.specs.Look.{lookahead}
 use Rattle.lexer.specs.Name.{symbolName, nameToken}
 use Rattle.lexer.specs.Token.{barToken, endToken, soloTo, plainToken, Symbolic}
+use Rattle.lexer.specs.declared.chars.Look.{Look}
 use Rattle.lexer.specs.declared.kind.Plain.{Plain}
 use Rattle.lexer.proofs.Looks.{look-byte}
 use Rattle.lexer.proofs.Sets.{apart}
@@ -21,8 +23,11 @@ either false p = refl
 
 -- the ways out, over plain values: the tests say of what class the first byte b is, p is what was read
 module _ (s : List ℕ) (at b : ℕ) (w : Symbolic s at b) where
+  there : lookahead s at ≡ Look.Byte b
+  there = w .at-unmarked .at-byte .there
+
   inside : at < length s
-  inside = look-byte s at b (w .at-unmarked .at-byte .there) .inside
+  inside = look-byte s at b there .inside
 
   module _ (p : Plain) where
     end-mark : b ≡ point → p ≡ endToken s at → p ≡ plainToken s at false b
@@ -41,16 +46,16 @@ module _ (s : List ℕ) (at b : ℕ) (w : Symbolic s at b) where
           let no = apart (within smallLetter underscoreChar) (classOf b) in
           cc (
             w .at-unmarked .unmarked,
-            no smallLetter (w .no-letter),
-            no capitalLetter (w .no-letter),
-            no underscoreChar (w .no-letter),
+            no smallLetter (w .at-unmarked .no-letter),
+            no capitalLetter (w .at-unmarked .no-letter),
+            no underscoreChar (w .at-unmarked .no-letter),
             w .no-digit,
             ne-eqb b point i,
             ne-eqb b bar j,
             either (is soloChar b) p,
           )
 
-ruleset ways = (inside, end-mark, a-bar, a-name, needs)
+ruleset ways = (there, inside, end-mark, a-bar, a-name, needs)
 
 -- answers
 end-token-requires : tie.Need-end-token-requires
