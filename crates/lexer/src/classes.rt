@@ -1,5 +1,5 @@
 // The classes of bytes, by comparisons: there is no table of them, neither here nor in what the compiler makes of it. The order
-// of the comparisons is the one in which the token call was fastest.
+// of the comparisons was chosen by measure (docs/PERFORMANCE.md): another one can cost room, time or a table.
 ghost use mathlib.Core.Path.{_≡_};
 ghost use mathlib.Core.Bool.{_&&_};
 ghost use lib.Dec.{ltb};
@@ -96,6 +96,7 @@ pub fn is_layout(b: u8) -> bool
     is_layout_control(b)
 }
 
+// ' " `
 pub(crate) fn is_quote(b: u8) -> bool
     ensures { λ r. ⌜ r ≡ is quoteChar b ⌝ }
 {

@@ -152,7 +152,7 @@ fn slash_text(text: &[u8], cursor: Cursor) -> Layout
     }
 }
 
-// One layout text.
+// One layout text. None begins above the slash, where half of all tokens do.
 fn consume_layout(text: &[u8], cursor: Cursor) -> Layout
     requires { ⌜ Valid (length (now text)) cursor ⌝ }
     ensures { λ r. ⌜ r ≡ stepped (now (text .entry)) cursor (layoutText (now (text .entry)) (cursor .offset)) ⌝ }
