@@ -50,6 +50,7 @@ mark layout x =
     (cond (eqb x comma) (Mark.Is Comma)
     Mark.Other))))))
 
+-- it is one of these tokens
 abbrev pub isMark : Mark → Bool
 isMark (Mark.Is k) = true
 isMark Mark.Other = false

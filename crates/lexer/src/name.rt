@@ -86,8 +86,8 @@ fn run_token(kind: Kind, run: Scan) -> Plain
     }
 }
 
-// A name that ends at `end`.
-fn single_name(end: usize) -> Plain
+// A name up to `end`.
+fn name_to(end: usize) -> Plain
     ensures { λ r. ⌜ r ≡ Plain.Whole Name Nothing end ⌝ }
 {
     Plain::Whole {
@@ -109,9 +109,9 @@ fn solo_name(at: usize, end: usize, b: u8) -> Plain
     ensures { λ r. ⌜ r ≡ soloName at end b ⌝ }
 {
     if b == b'!' {
-        single_name(end)
+        name_to(end)
     } else if b == b';' {
-        single_name(end)
+        name_to(end)
     } else {
         Plain::Refused(Fault {
             refusal: Refusal::NoToken,
@@ -164,7 +164,7 @@ pub(crate) fn symbol_name(text: &[u8], at: usize, b: u8) -> Plain
             if end == at {
                 solo_name(at, at + 1, b)
             } else {
-                single_name(end)
+                name_to(end)
             }
         }
     }

@@ -27,11 +27,11 @@ module _ (at e b : ℕ) where
 ruleset ways = (first, second, none, needs)
 
 -- answers
-single-name-requires : tie.Need-single-name-requires
-single-name-requires c κs = search ways
+name-to-requires : tie.Need-name-to-requires
+name-to-requires c κs = search ways
 
-single-name-requires-2 : tie.Need-single-name-requires-2
-single-name-requires-2 c κs = search ways
+name-to-requires-2 : tie.Need-name-to-requires-2
+name-to-requires-2 c κs = search ways
 
 returns : tie.Need-returns
 returns c = search ways
@@ -44,4 +44,4 @@ returns-3 c = search ways
 
 pub solo-name-spec : {M : Type 1} → statement M
 solo-name-spec =
-    tie.close (tie.spec single-name-requires single-name-requires-2 returns returns-2 returns-3)
+    tie.close (tie.spec name-to-requires name-to-requires-2 returns returns-2 returns-3)

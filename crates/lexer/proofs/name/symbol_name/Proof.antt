@@ -89,8 +89,8 @@ add-solo-name c = search ways
 solo-name-requires : tie.Need-solo-name-requires
 solo-name-requires c κs = search ways
 
-single-name-requires : tie.Need-single-name-requires
-single-name-requires c κs = search ways
+name-to-requires : tie.Need-name-to-requires
+name-to-requires c κs = search ways
 
 returns : tie.Need-returns
 returns c = search ways
@@ -110,7 +110,7 @@ symbol-name-spec =
     enum-known-end
     add-solo-name
     solo-name-requires
-    single-name-requires
+    name-to-requires
     returns
     returns-2
     returns-3)
