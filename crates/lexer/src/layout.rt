@@ -3,6 +3,7 @@ use crate::chars::Look;
 use crate::chars::Peek;
 use crate::chars::lookahead_char;
 use crate::chars::peek_char;
+use crate::classes::between;
 use crate::classes::is_layout;
 use crate::cursor::Cursor;
 use crate::cursor::Moved;
@@ -13,7 +14,10 @@ use crate::refusal::Refusal;
 use crate::stretch::NONE;
 use crate::stretch::stretch_end;
 ghost use mathlib.Core.Path.{_≡_};
+ghost use mathlib.Core.Bool.{_||_};
+ghost use lib.Dec.{ltb};
 ghost use lib.ListN.{length};
+ghost use Rattle.lexer.specs.Chars.{within, openParen, point, slash};
 ghost use Rattle.lexer.specs.Cursor.{Valid};
 ghost use Prim.Native.Nat.{_+_};
 ghost use Rattle.lexer.specs.Look.{lookahead};
@@ -152,7 +156,17 @@ fn slash_text(text: &[u8], cursor: Cursor) -> Layout
     }
 }
 
-// One layout text. None begins above the slash, where half of all tokens do.
+// Above the slash, or from the opening parenthesis to the point: no layout begins so, and nearly every token does.
+fn begins_no_layout(b: u8) -> bool
+    ensures { λ r. ⌜ r ≡ (ltb slash b || within openParen point b) ⌝ }
+{
+    if b'/' < b {
+        return true;
+    }
+    between(b'(', b'.', b)
+}
+
+// One layout text.
 fn consume_layout(text: &[u8], cursor: Cursor) -> Layout
     requires { ⌜ Valid (length (now text)) cursor ⌝ }
     ensures { λ r. ⌜ r ≡ stepped (now (text .entry)) cursor (layoutText (now (text .entry)) (cursor .offset)) ⌝ }
@@ -161,7 +175,7 @@ fn consume_layout(text: &[u8], cursor: Cursor) -> Layout
     match lookahead_char(text, at) {
         Look::Refused(fault) => Layout::Refused(fault),
         Look::Byte(b) => {
-            if b'/' < b {
+            if begins_no_layout(b) {
                 Layout::Absent
             } else if is_layout(b) {
                 Layout::To(skip_char(cursor, b))

@@ -72,8 +72,11 @@ pub enum Mark {
 fn is_mark(b: u8) -> bool
     ensures { λ r. ⌜ r ≡ isMark (mark false b) ⌝ }
 {
-    if between(b'(', b',', b) {
-        return !between(b'*', b'+', b);
+    if between(b'(', b')', b) {
+        return true;
+    }
+    if b == b',' {
+        return true;
     }
     if between(b'[', b']', b) {
         return b != b'\\';

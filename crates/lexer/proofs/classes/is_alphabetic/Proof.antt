@@ -27,7 +27,7 @@ module _ (b : ℕ) (h : b < 256) where
 
   module _ (l : capitalA ≤ b) where
     back : b ≡ backQuote → false ≡ due b
-    back e = cc (rule, le-ltb b capitalA l)
+    back e = cc rule
 
     module _ (n : b ≡ backQuote → ⊥) (r : Bool) (e : r ≡ within underscore smallZ b) where
       small : r ≡ true → true ≡ due b

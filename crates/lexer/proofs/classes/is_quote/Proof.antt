@@ -24,7 +24,7 @@ module _ (b : ℕ) (h : b < 256) where
 
   module _ (l : b ≤ singleQuote) where
     double : b ≡ doubleQuote → true ≡ is quoteChar b
-    double e = cc (rule, le-ltb singleQuote b l)
+    double e = cc rule
 
     single : (b ≡ doubleQuote → ⊥) → eqb b singleQuote ≡ is quoteChar b
     single n = cc (rule, le-ltb singleQuote b l, ne-eqb b doubleQuote n)

@@ -1,14 +1,14 @@
 -- `lexer::layout::consume_layout` meets its contract. Assumes nothing.
 use Prim.Native.Nat.{ℕ, _+_, _<_}
 use mathlib.Core.Path.{_≡_, refl, sym, _∙_, ap}
-use mathlib.Core.Bool.{Bool, true, false, _&&_}
+use mathlib.Core.Bool.{Bool, true, false, _&&_, _||_}
 use mathlib.Core.List.{List}
 use native.Mathlib.Omega.{arith}
 use borrow.Author.Needs.{needs}
-use borrow.Author.Tests.{eq-eqb, ne-eqb, lt-ltb}
-use lib.Dec.{ltb}
+use borrow.Author.Tests.{eq-eqb, ne-eqb}
+use lib.Dec.{T, ltb, eqb}
 use lib.ListN.{length}
-use Rattle.lexer.specs.Chars.{classOf, is, layoutChar, percent, slash}
+use Rattle.lexer.specs.Chars.{classOf, is, within, layoutChar, openParen, point, percent, slash}
 use Rattle.lexer.specs.Cursor.{step, Valid, Movable}
 use Rattle.lexer.specs.Layout.{singleLineComment, slashed, layoutTextOf, layoutText, moved, stepped, layoutTo, Slash}
 use Rattle.lexer.specs.Look.{lookahead}
@@ -21,9 +21,13 @@ use Rattle.lexer.proofs.Cursors.{movable, step-valid, move-here, move-s
 use Rattle.lexer.proofs.Layouts.{line-ends, stepped-ahead}
 use Rattle.lexer.proofs.Looks.{Seen, look-byte}
 use Rattle.lexer.proofs.Scans.{moved-step}
-use Rattle.lexer.proofs.Table.{agreed}
+use Rattle.lexer.proofs.Table.{agree, agreed}
 use Rattle.lexer.proofs.layout.consume_layout.Statement.{statement}
 use Rattle.lexer.proofs.layout.consume_layout.Tie as tie
+
+-- what the code lets past at once
+abbrev early : ℕ → Bool
+early x = ltb slash x || within openParen point x
 
 -- the ways out, over plain values: r is what stands at the cursor
 module _ (s : List ℕ) (c : Cursor) (r : Look) (e : r ≡ lookahead s (c .offset)) where
@@ -45,12 +49,14 @@ module _ (s : List ℕ) (c : Cursor) (r : Look) (e : r ≡ lookahead s (c .offse
       at-slash : b ≡ slash → Slash s c
       at-slash n = record { valid = v; slash-there = sym e ∙ q ∙ ap Look.Byte n }
 
-    -- no layout begins above the slash: one test over all bytes, which antt computes
-    above : b < 256 → slash < b → Layout.Absent ≡ stepped s c (layoutText s (c .offset))
-    unfolding layoutTextOf stepped classOf
-    above h l =
-        let i : is layoutChar b ≡ false = sym (cc (lt-ltb slash b l)) ∙ agreed (λ x. ltb slash x && is layoutChar x) (λ x. false) 256 tt b h in
-        cc (i, ne-eqb b percent (λ z. omega arith), ne-eqb b slash (λ z. omega arith), eq-eqb (c .offset) (c .offset) refl)
+    module _ (h : b < 256) (u : Bool) (i : u ≡ early b) (j : u ≡ true) where
+      -- what no early byte is, b is not: one test over all bytes, which antt computes
+      never : (q : ℕ → Bool) → T (agree (λ x. early x && q x) (λ x. false) 256) → q b ≡ false
+      never q t = let k : q b ≡ (early b && q b) = cc in k ∙ agreed (λ x. early x && q x) (λ x. false) 256 t b h
+
+      absent : Layout.Absent ≡ stepped s c (layoutText s (c .offset))
+      unfolding layoutTextOf stepped classOf
+      absent = cc (never (is layoutChar) tt, never (λ x. eqb x percent) tt, never (λ x. eqb x slash) tt, eq-eqb (c .offset) (c .offset) refl)
 
     module _ (t : Bool) (g : t ≡ is layoutChar b) where
       blank : (d : Cursor) → t ≡ true → d ≡ step c b → Layout.To d ≡ stepped s c (layoutText s (c .offset))
@@ -77,7 +83,7 @@ module _ (s : List ℕ) (c : Cursor) (r : Look) (e : r ≡ lookahead s (c .offse
         unfolding layoutTextOf stepped
         none o p = cc (ne-eqb b percent o, ne-eqb b slash p, eq-eqb (c .offset) (c .offset) refl)
 
-ruleset ways = (refused, can-skip, in-comment, at-slash, above, blank, line, comment, none, needs)
+ruleset ways = (refused, can-skip, in-comment, at-slash, absent, blank, line, comment, none, needs)
 
 -- answers
 lookahead-char-requires : tie.Need-lookahead-char-requires
@@ -88,6 +94,9 @@ enum-known-fault c = search ways
 
 enum-known-b : tie.Need-enum-known-b
 enum-known-b c = search ways
+
+begins-no-layout-requires : tie.Need-begins-no-layout-requires
+begins-no-layout-requires c κs = search ways
 
 is-layout-requires : tie.Need-is-layout-requires
 is-layout-requires c κs = search ways
@@ -132,6 +141,7 @@ consume-layout-spec =
     lookahead-char-requires
     enum-known-fault
     enum-known-b
+    begins-no-layout-requires
     is-layout-requires
     skip-char-requires
     skip-char-requires-2
