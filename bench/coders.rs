@@ -1,5 +1,5 @@
 //! What packs and unpacks: the archive, and the plain coder of coder.c.
-use crate::thrinvage::{self, Cursor, TREE_NUMBERS};
+use crate::thrinvage::{self, Cursor, Source, TREE_NUMBERS};
 
 /// Of a node: kind, arity, start and length of its spelling.
 pub const NUMBERS: usize = 4;
@@ -147,7 +147,7 @@ impl ByHand {
     fn find_spans(&mut self, text: &[u8], mut at: Cursor, end: Cursor) {
         self.spans.clear();
         while at != end {
-            let token = thrinvage::next_token(text, at).expect("a token of a clause that was read");
+            let token = thrinvage::next_token(text, at, Source::File).expect("a token of a clause that was read");
             self.spans.push([token.start, token.next.offset]);
             at = token.next;
         }

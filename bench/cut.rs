@@ -1,7 +1,7 @@
 //! Cuts Prolog text into clauses that both read alike, and joins them to texts of a wanted size.
 use crate::model::LONGEST_TEXT;
 use crate::table::Amount;
-use crate::thrinvage::{self, Cursor, Kind, Refusal, TREE_NUMBERS};
+use crate::thrinvage::{self, Cursor, Kind, Refusal, Source, TREE_NUMBERS};
 use oracle::api::{END_OF_FILE, Machine};
 
 const END_OF_TEXT: u32 = 1;
@@ -48,7 +48,7 @@ fn window(source: &[u8], at: usize) -> &[u8] {
 }
 
 fn length_of_clause(text: &[u8]) -> Result<usize, Refusal> {
-    for token in thrinvage::tokens(text) {
+    for token in thrinvage::tokens(text, Source::File) {
         let token = token?;
         if token.kind == Kind::End {
             return Ok(token.next.offset);
@@ -71,7 +71,7 @@ fn behind_blank_line(source: &[u8], from: usize) -> usize {
 fn read_alike(text: &[u8], machine: &mut Machine) -> Option<Vec<Kind>> {
     let mut session = machine.start(text);
     let mut kinds = Vec::new();
-    for ours in thrinvage::tokens(text) {
+    for ours in thrinvage::tokens(text, Source::File) {
         match (ours, session.next_token()) {
             (Ok(ours), Ok(rust)) if ours.kind as usize == rust.kind as usize && ours.next.offset == rust.end => {
                 kinds.push(ours.kind)
@@ -93,7 +93,7 @@ pub fn is_of_the_grammar(clause: &Clause) -> bool {
 /// Whether no token of the clause is longer than the reader of chunks takes.
 #[cfg(chunks)]
 pub fn has_short_tokens(clause: &Clause) -> bool {
-    thrinvage::tokens(clause).flatten().all(|token| token.next.offset - token.start <= 1_024)
+    thrinvage::tokens(clause, Source::File).flatten().all(|token| token.next.offset - token.start <= 1_024)
 }
 
 /// Texts of at most `size` bytes and at least half as many. A clause that does not fit starts the next text, but is left out while

@@ -5,7 +5,7 @@ use crate::cut::Batch;
 #[cfg(chunks)]
 use crate::feeding::Feeding;
 use crate::model::LONGEST_TEXT;
-use crate::thrinvage::{self, Cursor, NO_TEXT, Part, Refusal, Scanner, TREE_NUMBERS};
+use crate::thrinvage::{self, Cursor, NO_TEXT, Part, Refusal, Scanner, Source, TREE_NUMBERS};
 use oracle::api::Machine;
 use std::hint::black_box;
 
@@ -65,7 +65,7 @@ impl Reader {
 }
 
 fn tokens(text: &[u8]) -> usize {
-    let (mut scanner, mut count) = (Scanner::new(text), 0);
+    let (mut scanner, mut count) = (Scanner::new(text, Source::File), 0);
     while scanner.advance().is_ok() {
         black_box(&scanner);
         count += 1;
@@ -95,7 +95,7 @@ fn text_or_token(text: &[u8], at: Cursor, scratch: &mut [u8], kept: &mut Vec<u8>
             });
             Ok(black_box(&token).next)
         }
-        Err(Refusal { number: NO_TEXT, .. }) => thrinvage::next_token(text, at).map(|token| black_box(&token).next),
+        Err(Refusal { number: NO_TEXT, .. }) => thrinvage::next_token(text, at, Source::File).map(|token| black_box(&token).next),
         Err(refusal) => Err(refusal),
     }
 }

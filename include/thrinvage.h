@@ -61,7 +61,7 @@ enum thrinvage_refusal {
     THRINVAGE_READ = 0,
     THRINVAGE_END_OF_TEXT = 1,      /* a rule needs a character and the text has ended; at the text's length */
     THRINVAGE_UNCLOSED_COMMENT = 2, /* a bracketed comment is not closed, and the text does not end right behind its opening mark; at its slash */
-    THRINVAGE_NO_TOKEN = 3,         /* no token of this call starts with this character; at it */
+    THRINVAGE_NO_TOKEN = 3,         /* no token starts with this character, a back quote; at it */
     THRINVAGE_BAD_QUOTED = 4,       /* a raw newline, return or tab, or an escape that ISO lacks, in a quoted item or after 0'; at the token */
     THRINVAGE_FOREIGN_BYTE = 5,     /* a byte outside ISO's characters, in comments too; at it */
     THRINVAGE_SET_ASIDE = 6,        /* `_` right after the leading digits, or 0'\ and a newline; at the token */
@@ -87,6 +87,14 @@ enum thrinvage_refusal {
  *
  * The line of an offset is the count of newlines (byte 10) before it, and its column the count of bytes between the last of them, or the text's start,
  * and the offset; editors count both from 1. examples/c/read.c prints them, and the line with a caret below the byte. */
+
+/* What the text of thrinvage_next_token is. They differ in one thing: in a field a decimal integer or a whole float may end with the text, and in a file it
+ * is then refused by 1, since more of it may come. So `12` is 12 in a field, and `0x` is refused in both; `-7` is two tokens, the name `-` and the number.
+ * Every other number than these two is a file's. All other functions read a file. */
+enum thrinvage_source {
+    THRINVAGE_FILE = 0,
+    THRINVAGE_FIELD = 1 /* what was typed into a field of a form */
+};
 
 /* A token's field `kind`. Whether `(` is OPEN or OPEN_CT hangs on what the call passed over, and on nothing before the cursor: at a cursor that was
  * put into the middle of layout by hand, a `(` that stands right there is OPEN_CT, and one behind more layout is OPEN. So it is with a `(` right behind
@@ -166,11 +174,9 @@ struct thrinvage_clause {
     uint64_t count;      /* of the tree's nodes, or of the line's or the image's bytes */
 };
 
-/* The next token behind the cursor. */
-uint32_t thrinvage_next_token(const uint8_t *text, size_t length, size_t offset, size_t line, size_t column, struct thrinvage_token *token);
-
-/* The same for a number in a field: it may end with the text. Where no digit starts, a name is read by the name rules. */
-uint32_t thrinvage_next_number_token(const uint8_t *text, size_t length, size_t offset, size_t line, size_t column, struct thrinvage_token *token);
+/* The next token behind the cursor. `source` says what the text is (enum thrinvage_source). */
+uint32_t thrinvage_next_token(const uint8_t *text, size_t length, size_t offset, size_t line, size_t column,
+                              struct thrinvage_token *token, uint32_t source);
 
 /* The next token and its decoded text. A quoted item is decoded to the front of the scratch, which has `room` bytes; a name or a variable
  * that is not quoted stays in the text, and nothing is written to the scratch. A decoded text is never longer than its source. */

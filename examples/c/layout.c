@@ -13,7 +13,7 @@ static unsigned long texts, of_layout, differ;
 
 static int by_function(const uint8_t *text, size_t length) {
     struct thrinvage_token t = {0};
-    return thrinvage_next_token(text, length, 0, 0, 0, &t) == THRINVAGE_END_OF_TEXT && thrinvage_only_layout(text, length, 0);
+    return thrinvage_next_token(text, length, 0, 0, 0, &t, THRINVAGE_FILE) == THRINVAGE_END_OF_TEXT && thrinvage_only_layout(text, length, 0);
 }
 
 /* Writes two bytes behind the text. */
@@ -21,14 +21,14 @@ static int by_comma(uint8_t *text, size_t length) {
     struct thrinvage_token t = {0};
     text[length] = '\n';
     text[length + 1] = ',';
-    return thrinvage_next_token(text, length + 2, 0, 0, 0, &t) == THRINVAGE_READ && t.start == length + 1;
+    return thrinvage_next_token(text, length + 2, 0, 0, 0, &t, THRINVAGE_FILE) == THRINVAGE_READ && t.start == length + 1;
 }
 
 /* Whether the layout at the offset ends where the token call, with the two bytes behind the text, reads a token or refuses it. Refusals 1 and 5 do not say
  * where that is: they point behind the token's start, or into a comment. */
 static int ends_at_token(const uint8_t *text, size_t length, size_t offset) {
     struct thrinvage_token t = {0};
-    uint32_t number = thrinvage_next_token(text, length + 2, offset, 0, 0, &t);
+    uint32_t number = thrinvage_next_token(text, length + 2, offset, 0, 0, &t, THRINVAGE_FILE);
     size_t start = number == THRINVAGE_READ ? t.start : t.refused_at;
     return number == THRINVAGE_END_OF_TEXT || number == THRINVAGE_FOREIGN_BYTE ||
            thrinvage_layout_end(text, length, offset) == (start < length ? start : length);

@@ -1,7 +1,7 @@
 /* Prints what the reader reads.
  *
  *     read tokens|texts|clauses|listing|whole [FILE]    of a file, or of standard input
- *     read number TEXT                                  the number in a field
+ *     read field TEXT                                   the tokens of what was typed into a field
  *
  * A line is as the probe (docs/PROBE.md) or the listing program writes it. The last one is the refusal that ended the text: number 1, at the
  * text's length, where all of it was read. `whole` says `whole`, or what is wrong and where: as compilers do, so that an editor can go there, with the
@@ -14,11 +14,12 @@
 #include "thrinvage.h"
 #include "tokens.h"
 
-/* A text, and the file's name. */
-struct source {
+/* A text, what it is (enum thrinvage_source), and the file's name. */
+struct input {
     const char *name;
     const uint8_t *text;
     size_t length;
+    uint32_t source;
 };
 
 static void print_refused(uint32_t number, uint64_t at, uint64_t offset, uint64_t line, uint64_t column) {
@@ -28,21 +29,12 @@ static void print_refused(uint32_t number, uint64_t at, uint64_t offset, uint64_
 }
 
 /* A struct begins with the cursor behind what was read, so it is handed back in to go on. A refusal leaves that cursor where it was. */
-static void print_tokens(const struct source *s) {
+static void print_tokens(const struct input *s) {
     struct thrinvage_token t = {0};
     uint32_t number;
-    while ((number = thrinvage_next_token(s->text, s->length, t.offset, t.line, t.column, &t)) == THRINVAGE_READ)
+    while ((number = thrinvage_next_token(s->text, s->length, t.offset, t.line, t.column, &t, s->source)) == THRINVAGE_READ)
         print_token(&t);
     print_refused(number, t.refused_at, t.offset, t.line, t.column);
-}
-
-static void print_number(const uint8_t *text, size_t length) {
-    struct thrinvage_token t = {0};
-    uint32_t number = thrinvage_next_number_token(text, length, t.offset, t.line, t.column, &t);
-    if (number == THRINVAGE_READ)
-        print_token(&t);
-    else
-        print_refused(number, t.refused_at, t.offset, t.line, t.column);
 }
 
 static void print_text(const uint8_t *text, const uint8_t *scratch, const struct thrinvage_token_text *t) {
@@ -52,7 +44,7 @@ static void print_text(const uint8_t *text, const uint8_t *scratch, const struct
 }
 
 /* The decoded names, variables and strings, a line each. A token that has no text is stepped over by the token call. */
-static void print_texts(const struct source *s) {
+static void print_texts(const struct input *s) {
     static uint8_t scratch[THRINVAGE_LONGEST_TEXT]; /* room for any: a decoded text is never longer than its source */
     struct thrinvage_token_text t = {0};
     struct thrinvage_token *k = &t.token;
@@ -62,7 +54,7 @@ static void print_texts(const struct source *s) {
         if (number == THRINVAGE_READ)
             print_text(s->text, scratch, &t);
         else if (number == THRINVAGE_NO_TEXT)
-            number = thrinvage_next_token(s->text, s->length, k->offset, k->line, k->column, k);
+            number = thrinvage_next_token(s->text, s->length, k->offset, k->line, k->column, k, s->source);
     } while (number == THRINVAGE_READ);
     print_refused(number, k->refused_at, k->offset, k->line, k->column);
 }
@@ -76,7 +68,7 @@ static void print_tree(const uint16_t *tree, uint64_t nodes) {
     putchar('\n');
 }
 
-static void print_clauses(const struct source *s) {
+static void print_clauses(const struct input *s) {
     uint16_t tree[THRINVAGE_TREE_NUMBERS];
     struct thrinvage_clause c = {0};
     uint32_t number;
@@ -89,7 +81,7 @@ static void print_clauses(const struct source *s) {
     print_refused(number, c.refused_at, c.offset, c.line, c.column);
 }
 
-static void print_listing(const struct source *s) {
+static void print_listing(const struct input *s) {
     static uint8_t line[THRINVAGE_LINE_BYTES];
     struct thrinvage_clause c = {0};
     uint32_t number;
@@ -117,7 +109,7 @@ static size_t line_end(const uint8_t *text, size_t length, size_t start) {
 
 /* As compilers begin a message, so that an editor can go there: line and column from 1. All before the offset was read, so it is of ASCII, and a
  * character is a byte. */
-static void print_place(const struct source *s, size_t offset) {
+static void print_place(const struct input *s, size_t offset) {
     size_t line = 1;
     for (size_t i = 0; i < offset; i++)
         line += s->text[i] == '\n';
@@ -125,7 +117,7 @@ static void print_place(const struct source *s, size_t offset) {
 }
 
 /* The line that holds the offset, and a caret below that byte. Below a tab stands a tab: it takes as much room there as in the line. */
-static void print_caret(const struct source *s, size_t offset) {
+static void print_caret(const struct input *s, size_t offset) {
     size_t start = line_start(s->text, offset);
     fwrite(s->text + start, 1, line_end(s->text, s->length, start) - start, stdout);
     putchar('\n');
@@ -134,14 +126,14 @@ static void print_caret(const struct source *s, size_t offset) {
     puts("^");
 }
 
-static void print_fault(const struct source *s, uint32_t number, size_t offset) {
+static void print_fault(const struct input *s, uint32_t number, size_t offset) {
     print_place(s, offset);
     printf("refused %" PRIu32 " at %zu\n", number, offset);
     print_caret(s, offset);
 }
 
 /* Points at the clause's first token. It may be cut off itself, so the token call cannot say where it starts; the end of the layout before it can. */
-static void print_cut_off(const struct source *s, size_t offset) {
+static void print_cut_off(const struct input *s, size_t offset) {
     size_t start = thrinvage_layout_end(s->text, s->length, offset);
     print_place(s, start);
     puts("cut off: this clause has no end mark");
@@ -149,7 +141,7 @@ static void print_cut_off(const struct source *s, size_t offset) {
 }
 
 /* Reads all clauses. Where refusal 1 ended the text, nothing but layout stands behind the last of them, or the next one was cut off. */
-static void print_whole(const struct source *s) {
+static void print_whole(const struct input *s) {
     uint16_t tree[THRINVAGE_TREE_NUMBERS];
     struct thrinvage_clause c = {0};
     uint32_t number;
@@ -168,14 +160,14 @@ static void print_whole(const struct source *s) {
 
 static const struct {
     const char *name;
-    void (*print)(const struct source *s);
+    void (*print)(const struct input *s);
 } MODES[] = {{"tokens", print_tokens}, {"texts", print_texts}, {"clauses", print_clauses}, {"listing", print_listing}, {"whole", print_whole}};
 
 /* Reads the file, or standard input where none is named, and prints it in this mode. */
-static int print_file(void (*print)(const struct source *s), const char *name) {
+static int print_file(void (*print)(const struct input *s), const char *name) {
     static uint8_t text[THRINVAGE_LONGEST_TEXT + 1]; /* one more: a longer file is refused then, by number 8, and not cut short in silence */
     FILE *file = name == NULL ? stdin : fopen(name, "rb");
-    struct source s = {name == NULL ? "standard input" : name, text, file == NULL ? 0 : fread(text, 1, sizeof text, file)};
+    struct input s = {name == NULL ? "standard input" : name, text, file == NULL ? 0 : fread(text, 1, sizeof text, file), THRINVAGE_FILE};
     if (file == NULL || ferror(file)) {
         perror(s.name);
         return 2;
@@ -185,14 +177,14 @@ static int print_file(void (*print)(const struct source *s), const char *name) {
 }
 
 int main(int count, char **words) {
-    if (count == 3 && strcmp(words[1], "number") == 0) {
-        print_number((const uint8_t *)words[2], strlen(words[2]));
+    if (count == 3 && strcmp(words[1], "field") == 0) {
+        print_tokens(&(struct input){"a field", (const uint8_t *)words[2], strlen(words[2]), THRINVAGE_FIELD});
         return 0;
     }
     if (count == 2 || count == 3)
         for (size_t i = 0; i < sizeof MODES / sizeof MODES[0]; i++)
             if (strcmp(words[1], MODES[i].name) == 0)
                 return print_file(MODES[i].print, words[2]);
-    fprintf(stderr, "usage: read tokens|texts|clauses|listing|whole [FILE]\n       read number TEXT\n");
+    fprintf(stderr, "usage: read tokens|texts|clauses|listing|whole [FILE]\n       read field TEXT\n");
     return 2;
 }

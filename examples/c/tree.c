@@ -44,7 +44,7 @@ static void read_pieces(struct clause *clause, const uint8_t *text, size_t lengt
             piece->length = t.part_end - t.part_start;
             filled += t.part == THRINVAGE_SCRATCH ? piece->length : 0;
         } else {
-            thrinvage_next_token(text, length, k->offset, k->line, k->column, k);
+            thrinvage_next_token(text, length, k->offset, k->line, k->column, k, THRINVAGE_FILE);
             piece->bytes = text + k->start;
             piece->length = k->offset - k->start;
         }

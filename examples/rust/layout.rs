@@ -5,7 +5,7 @@
 mod thrinvage;
 
 use std::process::ExitCode;
-use thrinvage::{Cursor, END_OF_TEXT, Kind, Scanner, layout_end, next_token, only_layout_behind, tokens};
+use thrinvage::{Cursor, END_OF_TEXT, Kind, Scanner, Source, layout_end, next_token, only_layout_behind, tokens};
 
 const FOREIGN_BYTE: u32 = 5; // the refusal of a byte outside ISO's characters, in comments too
 const LONGEST: usize = 6;
@@ -20,22 +20,22 @@ struct Counts {
 
 fn by_function(text: &[u8]) -> bool {
     let start = Cursor::default();
-    next_token(text, start).is_err_and(|refusal| refusal.number == END_OF_TEXT) && only_layout_behind(text, start)
+    next_token(text, start, Source::File).is_err_and(|refusal| refusal.number == END_OF_TEXT) && only_layout_behind(text, start)
 }
 
 fn by_comma(longer: &[u8]) -> bool {
-    next_token(longer, Cursor::default()).is_ok_and(|token| token.start == longer.len() - 1)
+    next_token(longer, Cursor::default(), Source::File).is_ok_and(|token| token.start == longer.len() - 1)
 }
 
 fn whole_by_iterator(text: &[u8]) -> bool {
-    let mut read = tokens(text);
+    let mut read = tokens(text, Source::File);
     read.by_ref().for_each(drop);
     read.ended_whole()
 }
 
 /// Whether an end mark, or nothing, is the last token before the comma.
 fn whole_by_comma(longer: &[u8]) -> bool {
-    let (mut scanner, mut before) = (Scanner::new(longer), None);
+    let (mut scanner, mut before) = (Scanner::new(longer, Source::File), None);
     while scanner.advance().is_ok() {
         let token = scanner.token();
         if token.is_some_and(|token| token.start == longer.len() - 1) {
@@ -49,7 +49,7 @@ fn whole_by_comma(longer: &[u8]) -> bool {
 /// Whether the layout at the cursor ends where the token call, with the two bytes behind the text, reads a token or refuses it. Refusals 1 and 5 do not
 /// say where that is: they point behind the token's start, or into a comment.
 fn ends_at_token(text: &[u8], longer: &[u8], at: Cursor) -> bool {
-    let start = match next_token(longer, at) {
+    let start = match next_token(longer, at, Source::File) {
         Ok(token) => token.start,
         Err(refusal) if [END_OF_TEXT, FOREIGN_BYTE].contains(&refusal.number) => return true,
         Err(refusal) => refusal.offset,

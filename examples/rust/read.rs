@@ -2,7 +2,7 @@
 //!
 //! ```text
 //! read tokens|texts|clauses|listing|whole [FILE]    of a file, or of standard input
-//! read number TEXT                                  the number in a field
+//! read field TEXT                                   the tokens of what was typed into a field
 //! ```
 //!
 //! A line is as the probe (docs/PROBE.md) or the listing program writes it. The last one is the refusal that ended the text: number 1, at the
@@ -15,10 +15,9 @@ use std::env::args;
 use std::fs::File;
 use std::io::{Error, Read, Result, Write, stdin, stdout};
 use std::process::ExitCode;
-use thrinvage::{Cursor, LINE_BYTES, LONGEST_TEXT, Part, Refusal, TREE_NUMBERS};
+use thrinvage::{Cursor, LINE_BYTES, LONGEST_TEXT, Part, Refusal, Source, TREE_NUMBERS};
 use thrinvage::{
-    END_OF_TEXT, NO_TEXT, NOT_VALID, layout_end, list_clause, next_number_token, next_token, next_token_text,
-    only_layout_behind, read_clause,
+    END_OF_TEXT, NO_TEXT, NOT_VALID, layout_end, list_clause, next_token, next_token_text, only_layout_behind, read_clause,
 };
 use tokens::{print_token, shown_cursor};
 
@@ -27,9 +26,9 @@ fn print_refused(out: &mut impl Write, refusal: Refusal, at: Cursor) -> Result<(
     writeln!(out, "refused {} {} {}", refusal.number, refusal.offset, shown_cursor(at))
 }
 
-fn print_tokens(out: &mut impl Write, text: &[u8]) -> Result<()> {
+fn print_tokens(out: &mut impl Write, text: &[u8], source: Source) -> Result<()> {
     let mut at = Cursor::default();
-    for read in thrinvage::tokens(text) {
+    for read in thrinvage::tokens(text, source) {
         match read {
             Ok(token) => {
                 print_token(out, token)?;
@@ -39,14 +38,6 @@ fn print_tokens(out: &mut impl Write, text: &[u8]) -> Result<()> {
         }
     }
     Ok(())
-}
-
-fn print_number(out: &mut impl Write, text: &[u8]) -> Result<()> {
-    let at = Cursor::default();
-    match next_number_token(text, at) {
-        Ok(token) => print_token(out, token),
-        Err(refusal) => print_refused(out, refusal, at),
-    }
 }
 
 fn print_text(out: &mut impl Write, text: &[u8], scratch: &[u8], part: Part) -> Result<()> {
@@ -67,7 +58,7 @@ fn print_texts(out: &mut impl Write, text: &[u8]) -> Result<()> {
                 print_text(out, text, &scratch, part)?;
                 Ok(token)
             }
-            Err(refusal) if refusal.number == NO_TEXT => next_token(text, at),
+            Err(refusal) if refusal.number == NO_TEXT => next_token(text, at, Source::File),
             Err(refusal) => Err(refusal),
         };
         match read {
@@ -175,7 +166,7 @@ fn print_whole(out: &mut impl Write, name: &str, text: &[u8]) -> Result<()> {
 }
 
 fn usage() -> Error {
-    Error::other("usage: read tokens|texts|clauses|listing|whole [FILE]\n       read number TEXT")
+    Error::other("usage: read tokens|texts|clauses|listing|whole [FILE]\n       read field TEXT")
 }
 
 fn read_bytes(file: impl Read) -> Result<Vec<u8>> {
@@ -197,8 +188,8 @@ fn read_text(names: &[&str]) -> Result<Vec<u8>> {
 fn run(words: &[&str]) -> Result<()> {
     let mut out = stdout().lock();
     match words {
-        ["number", text] => print_number(&mut out, text.as_bytes()),
-        ["tokens", names @ ..] => print_tokens(&mut out, &read_text(names)?),
+        ["field", text] => print_tokens(&mut out, text.as_bytes(), Source::Field),
+        ["tokens", names @ ..] => print_tokens(&mut out, &read_text(names)?, Source::File),
         ["texts", names @ ..] => print_texts(&mut out, &read_text(names)?),
         ["clauses", names @ ..] => print_clauses(&mut out, &read_text(names)?),
         ["listing", names @ ..] => print_listing(&mut out, &read_text(names)?),

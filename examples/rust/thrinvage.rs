@@ -10,6 +10,14 @@ pub struct Cursor {
     pub column: usize,
 }
 
+/// What a text is. In a field a decimal integer or a whole float may end with the text; in a file it is then refused by 1.
+#[derive(Clone, Copy, Debug, PartialEq, Eq)]
+#[repr(u32)]
+pub enum Source {
+    File = 0,
+    Field = 1,
+}
+
 #[derive(Clone, Copy, Debug, PartialEq, Eq)]
 pub enum Kind {
     Name,
@@ -230,8 +238,9 @@ struct RawReader {
 type RawMove = unsafe extern "C" fn(image: *const u8, length: usize, out: *mut u8, room: usize, moved: *mut u64) -> u32;
 
 unsafe extern "C" {
-    fn thrinvage_next_token(text: *const u8, length: usize, offset: usize, line: usize, column: usize, token: *mut RawToken) -> u32;
-    fn thrinvage_next_number_token(text: *const u8, length: usize, offset: usize, line: usize, column: usize, token: *mut RawToken) -> u32;
+    fn thrinvage_next_token(
+        text: *const u8, length: usize, offset: usize, line: usize, column: usize, token: *mut RawToken, source: u32,
+    ) -> u32;
     fn thrinvage_next_token_text(
         text: *const u8, length: usize, offset: usize, line: usize, column: usize, scratch: *mut u8, room: usize, token: *mut RawText,
     ) -> u32;
@@ -283,22 +292,14 @@ fn unless_refused<A>(number: u32, refused_at: u64, read: impl FnOnce() -> A) -> 
 }
 
 /// The next token behind the cursor.
-pub fn next_token(text: &[u8], at: Cursor) -> Result<Token, Refusal> {
+pub fn next_token(text: &[u8], at: Cursor, source: Source) -> Result<Token, Refusal> {
     let mut raw = RawToken::default();
     // SAFETY: the pointers are of slices and of a local, with their lengths.
-    let number = unsafe { thrinvage_next_token(text.as_ptr(), text.len(), at.offset, at.line, at.column, &mut raw) };
+    let number = unsafe { thrinvage_next_token(text.as_ptr(), text.len(), at.offset, at.line, at.column, &mut raw, source as u32) };
     unless_refused(number, raw.refused_at, || raw.token())
 }
 
-/// The same for a number in a field: it may end with the text.
-pub fn next_number_token(text: &[u8], at: Cursor) -> Result<Token, Refusal> {
-    let mut raw = RawToken::default();
-    // SAFETY: as above.
-    let number = unsafe { thrinvage_next_number_token(text.as_ptr(), text.len(), at.offset, at.line, at.column, &mut raw) };
-    unless_refused(number, raw.refused_at, || raw.token())
-}
-
-/// The next token, and where its decoded text stands.
+/// The next token of a file, and where its decoded text stands.
 pub fn next_token_text(text: &[u8], at: Cursor, scratch: &mut [u8]) -> Result<(Token, Part), Refusal> {
     let mut raw = RawText::default();
     let (room, lent) = (scratch.len(), scratch.as_mut_ptr());
@@ -472,20 +473,21 @@ fn behind_first<'t>(mark: &[u8], text: &'t [u8]) -> Option<&'t [u8]> {
 /// Reads a text token by token and keeps the last one where the call put it: the fastest way through a text, since nothing is copied.
 pub struct Scanner<'t> {
     text: &'t [u8],
+    source: Source,
     raw: RawToken,
 }
 
 impl<'t> Scanner<'t> {
-    pub fn new(text: &'t [u8]) -> Scanner<'t> {
-        Scanner { text, raw: RawToken::default() }
+    pub fn new(text: &'t [u8], source: Source) -> Scanner<'t> {
+        Scanner { text, source, raw: RawToken::default() }
     }
 
     /// To the next token. A refusal leaves the last one as it was.
     pub fn advance(&mut self) -> Result<(), Refusal> {
         let RawToken { offset, line, column, .. } = self.raw;
-        let (text, raw) = (self.text, &mut self.raw);
+        let (text, source, raw) = (self.text, self.source as u32, &mut self.raw);
         // SAFETY: the pointers are of a slice, with its length, and of a field.
-        let number = unsafe { thrinvage_next_token(text.as_ptr(), text.len(), offset as usize, line as usize, column as usize, raw) };
+        let number = unsafe { thrinvage_next_token(text.as_ptr(), text.len(), offset as usize, line as usize, column as usize, raw, source) };
         unless_refused(number, self.raw.refused_at, || ())
     }
 
@@ -501,8 +503,8 @@ pub struct Tokens<'t> {
     ended: Option<Refusal>,
 }
 
-pub fn tokens(text: &[u8]) -> Tokens<'_> {
-    Tokens { scanner: Scanner::new(text), ended: None }
+pub fn tokens(text: &[u8], source: Source) -> Tokens<'_> {
+    Tokens { scanner: Scanner::new(text, source), ended: None }
 }
 
 impl Tokens<'_> {

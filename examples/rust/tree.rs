@@ -11,7 +11,7 @@ mod thrinvage;
 use std::env::args;
 use std::fs::File;
 use std::io::{Read, Result, Write, stdin, stdout};
-use thrinvage::{Cursor, Kind, LONGEST_TEXT, NO_TEXT, Part, Refusal, TREE_NUMBERS, Token, Value};
+use thrinvage::{Cursor, Kind, LONGEST_TEXT, NO_TEXT, Part, Refusal, Source, TREE_NUMBERS, Token, Value};
 use thrinvage::{next_token, next_token_text, read_clause};
 
 /// A token of the clause, and its decoded text, or its spelling where it has none.
@@ -39,7 +39,7 @@ fn read_piece(text: &[u8], at: Cursor, scratch: &mut [u8]) -> std::result::Resul
         Ok((token, Part::Source(range))) => Ok(Piece { token, bytes: text[range].to_vec() }),
         Ok((token, Part::Scratch(range))) => Ok(Piece { token, bytes: scratch[range].to_vec() }),
         Err(refusal) if refusal.number == NO_TEXT => {
-            next_token(text, at).map(|token| Piece { token, bytes: text[token.start..token.next.offset].to_vec() })
+            next_token(text, at, Source::File).map(|token| Piece { token, bytes: text[token.start..token.next.offset].to_vec() })
         }
         Err(refusal) => Err(refusal),
     }

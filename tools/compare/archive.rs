@@ -2,7 +2,7 @@
 use crate::kind::Kind;
 use crate::model::{Cursor, Reading, Value};
 use crate::protocol::{Answer, Case, FILL, KINDS};
-use crate::thrinvage::{self as archive, Part, Refusal, Token};
+use crate::thrinvage::{self as archive, Part, Refusal, Source, Token};
 
 fn there(at: Cursor) -> archive::Cursor {
     archive::Cursor { offset: at.offset, line: at.line, column: at.column }
@@ -38,7 +38,7 @@ fn token(cursor: Cursor, read: Result<Token, Refusal>) -> Answer {
 fn tokens(case: &Case) -> Vec<Answer> {
     let (mut cursor, mut answers) = (case.cursor, Vec::new());
     for _ in 0..=case.text.len() {
-        answers.push(token(cursor, archive::next_token(&case.text, there(cursor))));
+        answers.push(token(cursor, archive::next_token(&case.text, there(cursor), Source::File)));
         match answers.last() {
             Some(Answer::Token { next, .. }) => cursor = *next,
             _ => break,
@@ -66,8 +66,8 @@ fn text(case: &Case) -> Answer {
 pub fn answers(case: &Case, _: &[Reading]) -> Vec<Answer> {
     let Case { call, cursor, text: bytes, .. } = case;
     match call {
-        b'n' => vec![token(*cursor, archive::next_number_token(bytes, there(*cursor)))],
-        b't' => vec![token(*cursor, archive::next_token(bytes, there(*cursor)))],
+        b'n' => vec![token(*cursor, archive::next_token(bytes, there(*cursor), Source::Field))],
+        b't' => vec![token(*cursor, archive::next_token(bytes, there(*cursor), Source::File))],
         b'x' => vec![text(case)],
         _ => tokens(case),
     }

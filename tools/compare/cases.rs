@@ -65,7 +65,7 @@ fn texts_up_to(alphabet: usize, length: u32) -> usize {
     (0..=length).map(|n| alphabet.pow(n)).sum()
 }
 
-/// Every short text gets the token, the number and the text call.
+/// Every short text gets the token call as a file and as a field, and the text call.
 const CALLS_A_TEXT: usize = 3;
 
 /// Hands out every short text of every family, as long as the budget of cases lasts for whole lengths.
@@ -410,7 +410,7 @@ impl Maker {
                 take(Case::new(b'x', cursor, room.min(LARGEST_ROOM), text));
             }
             if self.random.chance(if token.kind == Kind::Number { 30 } else { 8 }) {
-                // ended with the token, the text shows what only the number call accepts
+                // ended with the token, the text shows what only a field accepts
                 let end = if self.random.chance(50) { token.next.offset } else { text.len() };
                 take(Case::new(b'n', cursor, 0, &text[..end]));
             }

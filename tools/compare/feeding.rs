@@ -8,6 +8,8 @@ pub const COLUMN: usize = 2;
 pub const REFUSED_AT: usize = 3;
 pub const START: usize = 5;
 
+const FILE: u32 = 0;
+
 pub const READ: u32 = 0;
 pub const MORE: u32 = 256;
 pub const WINDOW: usize = 2057;
@@ -30,7 +32,7 @@ pub struct State {
 }
 
 unsafe extern "C" {
-    fn thrinvage_next_token(text: *const u8, length: usize, offset: usize, line: usize, column: usize, token: *mut Token) -> u32;
+    fn thrinvage_next_token(text: *const u8, length: usize, offset: usize, line: usize, column: usize, token: *mut Token, source: u32) -> u32;
     fn thrinvage_start(reader: *mut State);
     fn thrinvage_finish(reader: *mut State);
     fn thrinvage_feed(reader: *mut State, window: *mut [u8; WINDOW], chunk: *const u8, length: usize, token: *mut Token) -> u32;
@@ -41,7 +43,7 @@ pub fn next_token(text: &[u8], last: &Token) -> (u32, Token) {
     let mut token = Token::default();
     let [offset, line, column] = [OFFSET, LINE, COLUMN].map(|field| last[field] as usize);
     // SAFETY: the pointers are of a slice, with its length, and of a local.
-    let number = unsafe { thrinvage_next_token(text.as_ptr(), text.len(), offset, line, column, &mut token) };
+    let number = unsafe { thrinvage_next_token(text.as_ptr(), text.len(), offset, line, column, &mut token, FILE) };
     (number, token)
 }
 

@@ -67,14 +67,19 @@ pub struct Rust {
     scout: Machine,
 }
 
-/// The Rust's calls on a case, one after another while `go_on` says so.
+fn starts_with_digit(case: &Case, start: Result<usize, Failure>) -> bool {
+    start.is_ok_and(|at| case.text.get(at).is_some_and(u8::is_ascii_digit))
+}
+
+/// The Rust's calls on a case, one after another while `go_on` says so. Of a field, demand 2 says "equal to `next_number_token` where a digit
+/// starts, and to `next_token` elsewhere".
 pub fn ask_rust(rust: &mut Rust, case: &Case, mut go_on: impl FnMut(usize, Cursor, &RustCall) -> bool) {
     let base = case.cursor.offset;
     let mut session = rust.reader.start(&case.text[base..]);
     let (mut offset, mut line, mut lines) = (base, case.cursor.line, 0);
     for index in 0.. {
         let start = rust.scout.start(&case.text[offset..]).skip_layout().map(|n| offset + n);
-        let answer = if case.call == b'n' { session.next_number_token() } else { session.next_token() };
+        let answer = if case.call == b'n' && starts_with_digit(case, start) { session.next_number_token() } else { session.next_token() };
         let given = Cursor { offset, line, column: 0 };
         if let Ok(token) = &answer {
             offset = base + token.end;

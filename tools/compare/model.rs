@@ -1,5 +1,5 @@
-//! Document 01's tokenizer, read plainly: a function a rule, in 01's order, from the words of 01, of request 1 of document 02 and of the
-//! settled open points (T1 to T26, R1.1 to R1.7).
+//! Document 01's tokenizer, read plainly: a function a rule, in 01's order, from the words of 01, of requests 1 and 7 of document 02
+//! and of the settled open points (T1 to T26, R1.1 to R1.7, R7.1 to R7.3).
 //! It shares no code with lexer.rs, but its author had read lexer.rs, and T1 and T2 were settled by it: where all three agree, a misreading
 //! that they share is not ruled out. It stands in for the probe, decides what lies in demand 2's domain, and checks the answers written by
 //! hand. It is no part of what is proved.
@@ -66,9 +66,9 @@ pub struct Reading {
 }
 
 #[derive(Copy, Clone, Debug, PartialEq, Eq)]
-pub enum Call {
-    Token,
-    Number,
+pub enum Source {
+    File,
+    Field,
 }
 
 // Bytes: the classes of ISO 6.5.
@@ -131,7 +131,7 @@ struct Raw {
 
 struct Reader<'t> {
     text: &'t [u8],
-    call: Call,
+    source: Source,
     /// where the token starts, once its layout is read
     start: usize,
     /// an integer, float or escape code was out of limit: refusal 7 if the token is otherwise whole
@@ -139,17 +139,9 @@ struct Reader<'t> {
     outside: Option<&'static str>,
 }
 
-pub fn token_call(text: &[u8], cursor: Cursor) -> Reading {
-    read(text, cursor, Call::Token)
-}
-
-pub fn number_call(text: &[u8], cursor: Cursor) -> Reading {
-    read(text, cursor, Call::Number)
-}
-
-/// The text call: 12 before 9, and both behind the token's own refusals (T19, T20).
+/// The text call reads a file (R7.3): 12 before 9, and both behind the token's own refusals (T19, T20).
 pub fn text_call(text: &[u8], cursor: Cursor, room: usize) -> Reading {
-    let mut reading = token_call(text, cursor);
+    let mut reading = token_call(text, cursor, Source::File);
     if let Ok(token) = &reading.answer {
         let start = token.start;
         let refusal = match token.kind {
@@ -164,12 +156,12 @@ pub fn text_call(text: &[u8], cursor: Cursor, room: usize) -> Reading {
     reading
 }
 
-fn read(text: &[u8], cursor: Cursor, call: Call) -> Reading {
+pub fn token_call(text: &[u8], cursor: Cursor, source: Source) -> Reading {
     if text.len() > LONGEST_TEXT || !cursor.is_valid(text) {
         let fault = Fault { refusal: Refusal::NotValid, offset: 0 };
         return Reading { answer: Err(fault), outside: Some("text too long or cursor not valid") };
     }
-    let mut reader = Reader { text, call, start: cursor.offset, out_of_limit: false, outside: None };
+    let mut reader = Reader { text, source, start: cursor.offset, out_of_limit: false, outside: None };
     let answer = reader.token(cursor);
     if reader.out_of_limit {
         reader.outside.get_or_insert("out of limit");
@@ -257,7 +249,6 @@ impl Reader<'_> {
         let after_layout = start > cursor.offset;
         let raw = match first {
             b'0'..=b'9' => self.number()?,
-            _ if self.call == Call::Number => self.name(first)?,
             b'A'..=b'Z' | b'_' => {
                 let end = self.run(start + 1, is_alphanumeric)?;
                 Raw { kind: Kind::Variable, value: Value::Nothing, text: self.text[start..end].to_vec(), end }
@@ -406,11 +397,11 @@ impl Reader<'_> {
         self.reaching_the_end(raw)
     }
 
-    /// "Only the number call accepts such numbers."
+    /// "For a field, a token that starts with a digit is read as the number call read it."
     fn reaching_the_end(&self, raw: Raw) -> Result<Raw, Fault> {
-        match self.call {
-            Call::Number => Ok(raw),
-            Call::Token => Err(Fault { refusal: Refusal::EndOfText, offset: self.text.len() }),
+        match self.source {
+            Source::File => Err(Fault { refusal: Refusal::EndOfText, offset: self.text.len() }),
+            Source::Field => Ok(raw),
         }
     }
 

@@ -1,6 +1,6 @@
 //! The probe's format (docs/PROBE.md): cases out, answers in, and the model's answers in the same form.
 use crate::kind::Kind;
-use crate::model::{self, Cursor, Fault, Reading, Token, Value};
+use crate::model::{self, Cursor, Fault, Reading, Source, Token, Value};
 use std::io::{self, BufRead};
 
 pub const FILL: u8 = 165;
@@ -163,13 +163,13 @@ impl Answer {
 pub fn readings(case: &Case) -> Vec<Reading> {
     let Case { call, cursor, room, text } = case;
     match call {
-        b'n' => vec![model::number_call(text, *cursor)],
+        b'n' => vec![model::token_call(text, *cursor, Source::Field)],
         b'x' => vec![model::text_call(text, *cursor, *room)],
-        b't' => vec![model::token_call(text, *cursor)],
+        b't' => vec![model::token_call(text, *cursor, Source::File)],
         _ => {
-            let mut readings = vec![model::token_call(text, *cursor)];
+            let mut readings = vec![model::token_call(text, *cursor, Source::File)];
             while let Ok(token) = &readings[readings.len() - 1].answer {
-                readings.push(model::token_call(text, token.next));
+                readings.push(model::token_call(text, token.next, Source::File));
             }
             readings
         }

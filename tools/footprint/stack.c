@@ -27,13 +27,8 @@ static uint8_t window[THRINVAGE_WINDOW];
 
 static void next_token(void) {
     struct thrinvage_token t = {0};
-    while (thrinvage_next_token(text, length, t.offset, t.line, t.column, &t) == THRINVAGE_READ) {
+    while (thrinvage_next_token(text, length, t.offset, t.line, t.column, &t, THRINVAGE_FILE) == THRINVAGE_READ) {
     }
-}
-
-static void next_number_token(void) {
-    struct thrinvage_token t = {0};
-    thrinvage_next_number_token(text, length, 0, 0, 0, &t);
 }
 
 static void next_token_text(void) {
@@ -121,7 +116,6 @@ static const struct {
     const char *name;
     void (*call)(void);
 } CALLS[] = {{"thrinvage_next_token", next_token},
-             {"thrinvage_next_number_token", next_number_token},
              {"thrinvage_next_token_text", next_token_text},
              {"thrinvage_read_clause", read_clause},
              {"thrinvage_list_clause", list_clause},

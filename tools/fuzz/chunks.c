@@ -388,7 +388,7 @@ static void check_beside_whole(const struct reading *reading, const struct left 
     const struct text *text = reading->text;
     const struct thrinvage_token *last = &reading->last;
     struct thrinvage_token due;
-    uint32_t number = thrinvage_next_token(text->bytes, text->length, last->offset, last->line, last->column, &due);
+    uint32_t number = thrinvage_next_token(text->bytes, text->length, last->offset, last->line, last->column, &due, THRINVAGE_FILE);
     if (number == THRINVAGE_READ && due.offset - due.start <= LONGEST_TOKEN) {
         must(left->number == THRINVAGE_READ && memcmp(&left->token, &due, sizeof due) == 0, "not the token of the whole");
         return;

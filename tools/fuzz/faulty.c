@@ -269,7 +269,8 @@ static bool lists_no_clause_and_says_3(struct done *done)
 
 /* ---- where the clause calls' refusals point, and that 11 comes last */
 
-uint32_t __real_thrinvage_next_token(const uint8_t *text, size_t length, size_t offset, size_t line, size_t column, struct thrinvage_token *token);
+uint32_t __real_thrinvage_next_token(const uint8_t *text, size_t length, size_t offset, size_t line, size_t column,
+                                     struct thrinvage_token *token, uint32_t source);
 
 /* Starts of a clause's tokens: the first and the second, those on both sides of the one that is pointed at, or that one, and the last, the end mark's. */
 struct starts {
@@ -295,7 +296,7 @@ static struct starts find_starts(const struct done *done)
     struct starts starts = {0};
     struct thrinvage_token token = {.offset = done->offset, .line = done->line};
     for (size_t i = 0; i < THRINVAGE_MOST_TOKENS && token.kind != THRINVAGE_END; i++) {
-        if (__real_thrinvage_next_token(done->text, done->length, token.offset, token.line, 0, &token) != THRINVAGE_READ)
+        if (__real_thrinvage_next_token(done->text, done->length, token.offset, token.line, 0, &token, THRINVAGE_FILE) != THRINVAGE_READ)
             break;
         note_start(&starts, i, done->record[REFUSED_AT], token.start);
     }
@@ -592,7 +593,7 @@ static bool gives_the_line_behind_the_clause(struct done *done)
 static bool gives_the_line_behind_the_first_token(struct done *done)
 {
     struct thrinvage_token token;
-    return is_read(done) && __real_thrinvage_next_token(done->text, done->length, done->offset, done->line, 0, &token) == 0 && gives_line(done, token.line + 1);
+    return is_read(done) && __real_thrinvage_next_token(done->text, done->length, done->offset, done->line, 0, &token, THRINVAGE_FILE) == 0 && gives_line(done, token.line + 1);
 }
 
 /* Though the cursor may have been given another. */
@@ -917,6 +918,18 @@ static bool is_told_of_more_nodes(struct done *done)
     return done->nodes != NULL;
 }
 
+/* ---- nor here: it was told the other source */
+
+static bool reads_as_the_other_source(struct done *done)
+{
+    return done->call == TOKEN || done->call == FIELD;
+}
+
+static bool calls_a_name_a_variable(struct done *done)
+{
+    return is_read(done) && done->record[KIND] == THRINVAGE_NAME && (done->record[KIND] = THRINVAGE_VARIABLE, true);
+}
+
 /* Of the calls that have no part in packs, all; of those that read a clause, all at once, as they have one reader; else one call alone. */
 enum { CLAUSE_CALLS = CALLS + 1 };
 #define FAULT(name) {#name, name, CALLS}
@@ -979,6 +992,10 @@ static const struct fault {
     FAULT(lists_no_clause_and_says_3),
     FAULT(is_told_of_a_longer_text),
     FAULT(is_told_of_more_room),
+    /* a field beside a file */
+    FAULT_IN(TOKEN, reads_as_the_other_source),
+    FAULT_IN(FIELD, reads_as_the_other_source),
+    FAULT_IN(FIELD, calls_a_name_a_variable),
     /* refusals 9, 10 and 11 of the clause calls */
     FAULT_IN_CLAUSES(points_11_at_the_first_token),
     FAULT_IN_CLAUSES(points_11_a_token_early),
@@ -1228,7 +1245,6 @@ static size_t told_room(enum call call, size_t room)
 #define DONE(call, lent, lent_size, record, number) \
     with_fault((struct done){call, (uint8_t *)text, length, offset, line, (uint8_t *)(lent), lent_size, (uint64_t *)(record), sizeof *(record), number, NULL, 0})
 
-uint32_t __real_thrinvage_next_number_token(PLACE, struct thrinvage_token *token);
 uint32_t __real_thrinvage_next_token_text(PLACE, uint8_t *scratch, size_t room, struct thrinvage_token_text *token);
 uint32_t __real_thrinvage_read_clause(PLACE, uint16_t *tree, size_t room, struct thrinvage_clause *clause);
 uint32_t __real_thrinvage_list_clause(PLACE, uint8_t *out, size_t room, struct thrinvage_clause *clause);
@@ -1239,14 +1255,11 @@ uint32_t __real_thrinvage_pack_nodes_form_2(NODES_GIVEN, uint16_t line, uint8_t 
 uint32_t __real_thrinvage_move_up(const uint8_t *image, size_t length, uint8_t *out, size_t room, uint64_t *moved);
 uint32_t __real_thrinvage_move_down(const uint8_t *image, size_t length, uint8_t *out, size_t room, uint64_t *moved);
 
-uint32_t __wrap_thrinvage_next_token(PLACE, struct thrinvage_token *token)
+uint32_t __wrap_thrinvage_next_token(PLACE, struct thrinvage_token *token, uint32_t source)
 {
-    return DONE(TOKEN, NULL, 0, token, __real_thrinvage_next_token(text, told(TOKEN, length), offset, line, column, token));
-}
-
-uint32_t __wrap_thrinvage_next_number_token(PLACE, struct thrinvage_token *token)
-{
-    return DONE(NUMBER, NULL, 0, token, __real_thrinvage_next_number_token(text, told(NUMBER, length), offset, line, column, token));
+    enum call call = source == THRINVAGE_FIELD ? FIELD : TOKEN;
+    bool is_field = (call == FIELD) != lies(call, reads_as_the_other_source);
+    return DONE(call, NULL, 0, token, __real_thrinvage_next_token(text, told(call, length), offset, line, column, token, is_field ? THRINVAGE_FIELD : THRINVAGE_FILE));
 }
 
 uint32_t __wrap_thrinvage_next_token_text(PLACE, uint8_t *scratch, size_t room, struct thrinvage_token_text *token)

@@ -52,12 +52,18 @@ static size_t lent_size(const struct running *asked)
     return asked->call == READ ? 2 * asked->room : asked->room;
 }
 
+/* A file's number; of some places one that stands for nothing, and so for a file. */
+static uint32_t some_file(struct cursor at)
+{
+    return at.offset % 4 == 3 ? (uint32_t)at.column + 2 : THRINVAGE_FILE;
+}
+
 static uint32_t put(const struct running *asked, const struct slice *text, void *lent, void *record)
 {
     size_t offset = asked->at.offset, line = asked->at.line, column = asked->at.column;
     switch (asked->call) {
-    case TOKEN: return thrinvage_next_token(text->at, text->size, offset, line, column, record);
-    case NUMBER: return thrinvage_next_number_token(text->at, text->size, offset, line, column, record);
+    case TOKEN: return thrinvage_next_token(text->at, text->size, offset, line, column, record, some_file(asked->at));
+    case FIELD: return thrinvage_next_token(text->at, text->size, offset, line, column, record, THRINVAGE_FIELD);
     case TEXT: return thrinvage_next_token_text(text->at, text->size, offset, line, column, lent, asked->room, record);
     case READ: return thrinvage_read_clause(text->at, text->size, offset, line, column, lent, asked->room, record);
     case LIST: return thrinvage_list_clause(text->at, text->size, offset, line, column, lent, asked->room, record);
@@ -146,7 +152,7 @@ static bool is_at_first_token(enum call call, uint32_t number)
 static bool is_first_token(struct cursor at, size_t start)
 {
     struct thrinvage_token token;
-    return thrinvage_next_token(now_text.bytes, now_text.length, at.offset, at.line, at.column, &token) == THRINVAGE_READ && token.start == start;
+    return thrinvage_next_token(now_text.bytes, now_text.length, at.offset, at.line, at.column, &token, THRINVAGE_FILE) == THRINVAGE_READ && token.start == start;
 }
 
 static void check_refused(const struct running *asked, const struct given *given)
@@ -321,6 +327,15 @@ static size_t some_room(struct random *random)
     return random_below(random, most[random_below(random, sizeof most / sizeof *most)] + 1);
 }
 
+/* What reads otherwise than the token call of a file answers as it did here. */
+static void check_alike(const struct given *token, const struct given *other)
+{
+    must(other->number == token->number, "the text call or a field, and the token call of a file, do not refuse alike");
+    size_t size = other->number == THRINVAGE_READ ? sizeof(struct thrinvage_token) : 0;
+    must(memcmp(&other->record, &token->record, size) == 0, "the text call or a field, and the token call of a file, read different tokens");
+    must(size > 0 || other->record.fields[REFUSED_AT_FIELD] == token->record.fields[REFUSED_AT_FIELD], "they refuse at different places");
+}
+
 /* The text call reads the token call's token, or refuses it for one of two reasons more. */
 static void check_text_beside_token(const struct given *token, const struct given *text)
 {
@@ -329,10 +344,35 @@ static void check_text_beside_token(const struct given *token, const struct give
         must(text->record.fields[REFUSED_AT_FIELD] == token->record.token.start, "refusals 9 and 12 do not point at the token");
         return;
     }
-    must(text->number == token->number, "the text call and the token call do not refuse alike");
-    size_t size = text->number == THRINVAGE_READ ? sizeof(struct thrinvage_token) : 0;
-    must(memcmp(&text->record, &token->record, size) == 0, "the text call and the token call read different tokens");
-    must(size > 0 || text->record.fields[REFUSED_AT_FIELD] == token->record.fields[REFUSED_AT_FIELD], "they refuse at different places");
+    check_alike(token, text);
+}
+
+/* Whether digits, and nothing else, stand from here to the end of the text. */
+static bool is_digits_to_the_end(size_t at)
+{
+    size_t digits = at;
+    while (digits < now_text.length && '0' <= now_text.bytes[digits] && now_text.bytes[digits] <= '9')
+        digits++;
+    return at < digits && digits == now_text.length;
+}
+
+/* A field is read as a file, but for a number that reaches the end of the text: that is one, or out of limit. */
+static void check_field_beside_file(struct cursor at, const struct given *file, const struct given *field)
+{
+    bool digits = is_valid(at) && file->number != THRINVAGE_FOREIGN_BYTE && is_digits_to_the_end(thrinvage_layout_end(now_text.bytes, now_text.length, at.offset));
+    must(!digits || file->number == THRINVAGE_END_OF_TEXT, "a file has a number that reaches the end of the text");
+    must(!digits || field->number != THRINVAGE_END_OF_TEXT, "a field has no number that reaches the end of the text");
+    bool cut_off = file->number == THRINVAGE_END_OF_TEXT && field->number != THRINVAGE_END_OF_TEXT;
+    if (!cut_off) {
+        check_alike(file, field);
+        return;
+    }
+    bool is_read = field->number == THRINVAGE_READ;
+    must(is_read || field->number == THRINVAGE_OUT_OF_LIMIT, "a field refuses otherwise what a file has not to its end");
+    must(!is_read || field->record.token.kind == THRINVAGE_NUMBER, "a field reads what is no number to the end of the text");
+    must(!is_read || field->record.token.offset == now_text.length, "a field's number that a file has not to its end stops before it");
+    uint8_t first = now_text.bytes[is_read ? field->record.token.start : field->record.fields[REFUSED_AT_FIELD]];
+    must('0' <= first && first <= '9', "a field's number starts with no digit");
 }
 
 static void check_line_beside_tree(const struct given *tree, const struct given *line)
@@ -357,7 +397,7 @@ static void find_spans(struct cursor at, size_t end, struct span *spans)
 {
     struct thrinvage_token token = {.offset = at.offset, .line = at.line, .column = at.column};
     for (size_t i = 0; i < THRINVAGE_MOST_TOKENS && token.offset < end; i++) {
-        uint32_t number = thrinvage_next_token(now_text.bytes, now_text.length, token.offset, token.line, token.column, &token);
+        uint32_t number = thrinvage_next_token(now_text.bytes, now_text.length, token.offset, token.line, token.column, &token, THRINVAGE_FILE);
         must(number == THRINVAGE_READ, "a token of a clause that was read is refused");
         spans[i] = (struct span){token.start, token.offset};
     }
@@ -444,7 +484,8 @@ static void call_pack(struct random *random, const struct copies *copies, enum c
 static void call_the_others(struct random *random, const struct copies *copies, struct cursor at, const struct given *token)
 {
     static struct given given, other;
-    call_twice(random, copies, NUMBER, at, 0, &given);
+    call_twice(random, copies, FIELD, at, 0, &given);
+    check_field_beside_file(at, token, &given);
     call_twice(random, copies, TEXT, at, some_room(random), &given);
     check_text_beside_token(token, &given);
     call_twice(random, copies, READ, at, some_room(random), &given);
@@ -456,7 +497,7 @@ static void call_the_others(struct random *random, const struct copies *copies, 
     call_pack(random, copies, PACK_2, at);
 }
 
-/* Through the whole text by the token call, which must end; the other calls at some of its cursors. */
+/* Through the whole text by the token call, which must end; the other calls at some of its cursors, the first and the last among them. */
 static void walk(struct random *random, const struct copies *copies)
 {
     static struct given token;
@@ -465,7 +506,7 @@ static void walk(struct random *random, const struct copies *copies)
     for (size_t tokens = 0;; tokens++) {
         must(tokens <= now_text.length, "a text has more tokens than bytes");
         call_twice(random, copies, TOKEN, at, 0, &token);
-        if (tokens == 0 || random_one_in(random, others))
+        if (tokens == 0 || token.number != THRINVAGE_READ || random_one_in(random, others))
             call_the_others(random, copies, at, &token);
         if (token.number != THRINVAGE_READ)
             return;

@@ -36,7 +36,7 @@ static void find_tokens(const struct text *text, struct cursor at, struct clause
     clause->count = 0;
     do {
         must(clause->count < THRINVAGE_MOST_TOKENS, "refusal 11 where there are too many tokens");
-        uint32_t number = thrinvage_next_token(text->bytes, text->length, token.offset, token.line, token.column, &token);
+        uint32_t number = thrinvage_next_token(text->bytes, text->length, token.offset, token.line, token.column, &token, THRINVAGE_FILE);
         must(number == THRINVAGE_READ, "refusal 11 where a token is refused");
         must(token.kind <= THRINVAGE_END, "no such kind");
         clause->tokens[clause->count++] = (struct found){token.kind, token.start - at.offset, token.offset - at.offset};
@@ -128,7 +128,7 @@ static bool begins_so(const struct beginning *beginning)
     bool same = tried.length <= THRINVAGE_LONGEST_TEXT;
     while (same && token.kind != THRINVAGE_END) {
         same = count < THRINVAGE_MOST_TOKENS &&
-               thrinvage_next_token(tried.bytes, tried.length, token.offset, token.line, token.column, &token) == THRINVAGE_READ &&
+               thrinvage_next_token(tried.bytes, tried.length, token.offset, token.line, token.column, &token, THRINVAGE_FILE) == THRINVAGE_READ &&
                (count >= beginning->count || is_same_token(beginning->clause->tokens + count, &token));
         count++;
     }

@@ -5,7 +5,7 @@
 
 enum { MOST_SHOWN = 300 };
 
-static const char *const call_names[CALLS] = {"next_token",         "next_number_token", "next_token_text",   "read_clause", "list_clause", "pack_clause",
+static const char *const call_names[CALLS] = {"next_token",         "next_token, field", "next_token_text",   "read_clause", "list_clause", "pack_clause",
                                               "pack_clause_form_2", "pack_nodes",        "pack_nodes_form_2", "unpack",      "unpack_either",
                                               "move_up",            "move_down",         "feed",              "finish",      "start"};
 

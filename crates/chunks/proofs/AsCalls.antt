@@ -29,6 +29,7 @@ use Rattle.lexer.specs.declared.number.Numeral.{Numeral}
 use Rattle.lexer.specs.declared.number.NumberToken.{NumberToken}
 use Rattle.lexer.specs.declared.token.Answer.{Answer}
 use Rattle.lexer.specs.declared.token.Token.{Token}
+use Rattle.lexer.specs.declared.token.Source.the-variants.{File}
 use Rattle.lexer.proofs.Calls.{passes}
 use Rattle.lexer.proofs.Cursors.{move-valid}
 use Rattle.lexer.proofs.Promises.{lexeme-ends, token-there}
@@ -47,7 +48,7 @@ module _ (s : List ℕ) where
     pub long : TooLong s c fault-there
 
   -- what comes next is the token call's, or that
-  pub next-cases : (c : Cursor) → (readLexeme false s (c .offset) ≡ nextLexeme s (c .offset)) ⊎ Fifteen c (nextLexeme s (c .offset))
+  pub next-cases : (c : Cursor) → (readLexeme File s (c .offset) ≡ nextLexeme s (c .offset)) ⊎ Fifteen c (nextLexeme s (c .offset))
   unfolding afterLayout afterLayoutLimited
   next-cases c = go (layoutEnd s (c .offset)) refl
     where
@@ -58,25 +59,25 @@ module _ (s : List ℕ) where
       token-cases at e true f = inr (record { fault-there = fault TokenTooLong at; refuses = refl; long = record { start = at; starts = e; long = f; refusal = refl } })
       token-cases at e false f = inl refl
 
-      go : (r : Scan) → layoutEnd s (c .offset) ≡ r → (afterLayout false s (c .offset) (layoutEnd s (c .offset)) ≡ afterLayoutLimited s (c .offset) (layoutEnd s (c .offset))) ⊎ Fifteen c (afterLayoutLimited s (c .offset) (layoutEnd s (c .offset)))
-      go (Refused w) e = inl (ap (afterLayout false s (c .offset)) e ∙ sym (ap (afterLayoutLimited s (c .offset)) e))
+      go : (r : Scan) → layoutEnd s (c .offset) ≡ r → (afterLayout File s (c .offset) (layoutEnd s (c .offset)) ≡ afterLayoutLimited s (c .offset) (layoutEnd s (c .offset))) ⊎ Fifteen c (afterLayoutLimited s (c .offset) (layoutEnd s (c .offset)))
+      go (Refused w) e = inl (ap (afterLayout File s (c .offset)) e ∙ sym (ap (afterLayoutLimited s (c .offset)) e))
       go (Stop at) e =
-          subst (λ (r : Scan). (afterLayout false s (c .offset) r ≡ afterLayoutLimited s (c .offset) r) ⊎ Fifteen c (afterLayoutLimited s (c .offset) r)) (sym e)
+          subst (λ (r : Scan). (afterLayout File s (c .offset) r ≡ afterLayoutLimited s (c .offset) r) ⊎ Fifteen c (afterLayoutLimited s (c .offset) r)) (sym e)
           (token-cases at e (longer (ltb (c .offset) at) s at) refl)
 
   -- the token call from a valid cursor
-  pub answers : (c : Cursor) → Valid (length s) c → (a : Lexeme) → readLexeme false s (c .offset) ≡ a → nextToken s c ≡ answered s c a
+  pub answers : (c : Cursor) → Valid (length s) c → (a : Lexeme) → readLexeme File s (c .offset) ≡ a → nextToken File s c ≡ answered s c a
   answers c v a e = rw (passes (length s) c v) (ap (answered s c) e)
 
   -- a token that is handed out is the call's, and the cursor behind it is valid
-  read-there : (c : Cursor) → Valid (length s) c → (t : Token) (d : Cursor) → Next s c t d → (nextToken s c ≡ Answer.Read t d) × Valid (length s) d
+  read-there : (c : Cursor) → Valid (length s) c → (t : Token) (d : Cursor) → Next s c t d → (nextToken File s c ≡ Answer.Read t d) × Valid (length s) d
   unfolding answered
   read-there c v t d n = go (next-cases c)
     where
-      go : (readLexeme false s (c .offset) ≡ nextLexeme s (c .offset)) ⊎ Fifteen c (nextLexeme s (c .offset)) → (nextToken s c ≡ Answer.Read t d) × Valid (length s) d
+      go : (readLexeme File s (c .offset) ≡ nextLexeme s (c .offset)) ⊎ Fifteen c (nextLexeme s (c .offset)) → (nextToken File s c ≡ Answer.Read t d) × Valid (length s) d
       go (inl q) =
           let e = q ∙ n .reads in
-          let l = lexeme-ends false s (c .offset) t (n .end) (n .text) (v .offset) e in (
+          let l = lexeme-ends File s (c .offset) t (n .end) (n .text) (v .offset) e in (
             answers c v (lexeme t (n .end) (n .text)) e ∙ ap (Answer.Read t) (sym (n .moved)),
             subst (Valid (length s)) (sym (n .moved)) (move-valid s c (n .end) (omega (arith, l .behind, l .ahead)) (l .inside) v),
           )
@@ -87,7 +88,7 @@ module _ (s : List ℕ) where
   hands-calls (token t d h) c v p = let n = read-there c v t d (p .0) in (n .0, hands-calls h d (n .1) (p .1))
   hands-calls (last w) c v p = go (next-cases c)
     where
-      go : (readLexeme false s (c .offset) ≡ nextLexeme s (c .offset)) ⊎ Fifteen c (nextLexeme s (c .offset)) → (nextToken s c ≡ Answer.Refused w c) ⊎ TooLong s c w
+      go : (readLexeme File s (c .offset) ≡ nextLexeme s (c .offset)) ⊎ Fifteen c (nextLexeme s (c .offset)) → (nextToken File s c ≡ Answer.Refused w c) ⊎ TooLong s c w
       go (inl q) = inl (answers c v (refused w) (q ∙ p))
       go (inr l) = let f : refused (l .fault-there) ≡ refused w = sym (l .refuses) ∙ p in let k : l .fault-there ≡ w = cc in inr (subst (TooLong s c) k (l .long))
   hands-calls stuck c v p = tt
@@ -122,7 +123,7 @@ module _ (at : ℕ) (t : Token) (e : ℕ) (x : Text) where
       go (Floated.Value v) = whole-ends Kind.Number (Value.Float v) j
       go Floated.Beyond = never-ends j (fault OutOfLimit at)
 
-  number-ends : (n : NumberToken) → plainLexeme at (numbered false at n) ≡ lexeme t e x → numberEnd n ≡ e
+  number-ends : (n : NumberToken) → plainLexeme at (numbered at n) ≡ lexeme t e x → numberEnd n ≡ e
   unfolding numberEnd numbered
   number-ends (NumberToken.Whole m j) = valued-ends j m
   number-ends (NumberToken.Partial m j) = never-ends j (fault EndOfText j)
@@ -132,7 +133,7 @@ module _ (at : ℕ) (t : Token) (e : ℕ) (x : Text) where
 pub accepted-longer : (layout : Bool) (s : List ℕ) (at : ℕ) (t : Token) (e : ℕ) (x : Text) → at < length s → tokenAt layout s at ≡ lexeme t e x → longer layout s at ≡ ltb (at + longestToken) e
 unfolding longerThan endOf
 accepted-longer layout s at t e x h f =
-    let l = token-there false layout s at t e x f in
+    let l = token-there File layout s at t e x f in
     let n : tokenEnd layout s at ≡ e = by-test (λ (j : ℕ). j ≡ e) (is decimalDigit (getD s at 0)) _ _ (λ g. number-ends at t e x (numberToken s at) (sym (digit-token layout s at h g) ∙ f)) (λ _. ap endOf f) in
     let z : eqb e 0 ≡ false = ne-eqb e 0 (λ k. omega (arith, l .ahead)) in
     ap (longerThan layout s at (showing (tokenAt layout s at))) n ∙ rw z

@@ -17,6 +17,7 @@ use Rattle.lexer.specs.declared.token.Token.{Token}
 use Rattle.lexer.proofs.Cursors.{move-offset, move-valid}
 use Rattle.lexer.proofs.Faults.{token-refused-inside}
 use Rattle.lexer.proofs.Promises.{token-there}
+use Rattle.lexer.specs.declared.token.Source.the-variants.{File}
 use Rattle.chunks.specs.Answers.{handOf, Viewed, judgeOf, told}
 use Rattle.chunks.specs.Hand.{toNext, nextBy, Fits, Held, Starting}
 use Rattle.chunks.specs.Reader.{Passed, stopped, pass, placed, more, never, judged, given, reading, movedBy, Sums, Passable}
@@ -94,12 +95,12 @@ module _ (layout ended : Bool) (v : List ℕ) (some : 0 < length v) (c : Cursor)
     where
       go : (lexeme t e x ≡ refused (fault TokenTooLong 0)) ⊎ (tokenAt layout v 0 ≡ lexeme t e x) → c .offset + t .start ≤ longest
       go (inl q) = let y : _≡_ {A = ℕ} 0 1 = cc in absurd (omega arith)
-      go (inr q) = let p = token-there false layout v 0 t e x q in let k = able .short in omega (arith, p .ahead, p .inside)
+      go (inr q) = let p = token-there File layout v 0 t e x q in let k = able .short in omega (arith, p .ahead, p .inside)
   verdict-fits (settled (refused w)) r = go (in-limit (refused w) (r .0))
     where
       go : (refused w ≡ refused (fault TokenTooLong 0)) ⊎ (tokenAt layout v 0 ≡ refused w) → c .offset + w .offset ≤ longest + 1
       go (inl q) = let f : w ≡ fault TokenTooLong 0 = cc in let o = ap (λ (x : Fault). x .offset) f in let k = able .short in omega arith
-      go (inr q) = let o = token-refused-inside v startCursor false layout 0 w some q in let k = able .short in omega arith
+      go (inr q) = let o = token-refused-inside v startCursor File layout 0 w some q in let k = able .short in omega arith
   verdict-fits tooLong r = tt
   verdict-fits waiting r = tt
 

@@ -186,7 +186,7 @@ no-end : (layout : Bool) (s : List ℕ) (at k : ℕ) → at < length s → token
 unfolding numberEnd endOf
 no-end layout s at k l q =
     by-test (λ (e : ℕ). e ≡ 0) (is decimalDigit (getD s at 0)) _ _
-    (λ g. ap numberEnd (numbered-hit at (numberToken s at) k (plain-hit at (numbered false at (numberToken s at)) k (sym (digit-token layout s at l g) ∙ q))))
+    (λ g. ap numberEnd (numbered-hit at (numberToken s at) k (plain-hit at (numbered at (numberToken s at)) k (sym (digit-token layout s at l g) ∙ q))))
     (λ _. ap endOf q)
 
 -- and the byte that shows it is not the token's own

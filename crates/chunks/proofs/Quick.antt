@@ -24,6 +24,7 @@ use Rattle.lexer.specs.declared.cursor.Scan.the-variants.{Stop}
 use Rattle.lexer.specs.declared.number.NumberToken.{NumberToken}
 use Rattle.lexer.specs.declared.token.Answer.{Answer}
 use Rattle.lexer.specs.declared.token.Token.{Token}
+use Rattle.lexer.specs.declared.token.Source.the-variants.{File}
 use Rattle.lexer.proofs.Calls.{read-promises}
 use Rattle.lexer.proofs.Cursors.{both}
 use Rattle.lexer.proofs.Refusals.{number-once}
@@ -72,7 +73,7 @@ unfolding endOf
 token-inside layout s at = go (tokenAt layout s at) refl
   where
     go : (a : Lexeme) → tokenAt layout s at ≡ a → endOf a ≤ length s
-    go (lexeme t e x) f = token-there false layout s at t e x f .inside
+    go (lexeme t e x) f = token-there File layout s at t e x f .inside
     go (refused w) f = omega arith
 
 short-none : (s : List ℕ) → length s < longestToken → NoneLonger s
@@ -101,18 +102,18 @@ nextOf (Answer.Read t d) = Next.Token t d
 nextOf (Answer.Refused w c) = Next.Refused w
 
 module _ (s : List ℕ) (few : length s < longestToken) where
-  call-same : nextToken s startCursor ≡ answered s startCursor (nextLexeme s 0)
+  call-same : nextToken File s startCursor ≡ answered s startCursor (nextLexeme s 0)
   call-same = go (next-cases s startCursor)
     where
-      go : (readLexeme false s 0 ≡ nextLexeme s 0) ⊎ Fifteen s startCursor (nextLexeme s 0) → nextToken s startCursor ≡ answered s startCursor (nextLexeme s 0)
+      go : (readLexeme File s 0 ≡ nextLexeme s 0) ⊎ Fifteen s startCursor (nextLexeme s 0) → nextToken File s startCursor ≡ answered s startCursor (nextLexeme s 0)
       go (inl q) = answers s startCursor (record { short = omega arith; offset = omega arith; line = omega arith; column = omega arith }) (nextLexeme s 0) q
       go (inr l) = absurd (true-false (longer (ltb 0 (l .long .start)) s (l .long .start)) (l .long .long) (short-none s few 0 (l .long .start) (l .long .starts)))
 
-  read-same : (t : Token) (d : Cursor) → Next′ s startCursor t d → nextToken s startCursor ≡ Answer.Read t d
+  read-same : (t : Token) (d : Cursor) → Next′ s startCursor t d → nextToken File s startCursor ≡ Answer.Read t d
   unfolding answered
   read-same t d n = call-same ∙ ap (answered s startCursor) (n .reads) ∙ ap (Answer.Read t) (sym (n .moved))
 
-  refused-same : (w : Fault) → nextLexeme s 0 ≡ refused w → nextToken s startCursor ≡ Answer.Refused w startCursor
+  refused-same : (w : Fault) → nextLexeme s 0 ≡ refused w → nextToken File s startCursor ≡ Answer.Refused w startCursor
   unfolding answered
   refused-same w e = call-same ∙ ap (answered s startCursor) e
 
@@ -124,8 +125,8 @@ came-5 : (n : ℕ) → answerCame n (Answer.Refused (fault ForeignByte n) startC
 unfolding answerCame
 came-5 n = eq-eqb n n refl
 
-module _ (ended : Bool) (v z : List ℕ) (over : ended ≡ true → z ≡ []) (open-end : ended ≡ false → z ≡ unknown ∷ []) (few : length (v ++ z) < longestToken) (not-came : answerCame (length v) (nextToken (v ++ z) startCursor) ≡ false) where
-  by-gives : (g : Gives) → reading ended blank startCursor false v ≡ g → Tells (v ++ z) startCursor z ended over g → Counts 0 (0 + length v) g → toNext g ≡ nextOf (nextToken (v ++ z) startCursor)
+module _ (ended : Bool) (v z : List ℕ) (over : ended ≡ true → z ≡ []) (open-end : ended ≡ false → z ≡ unknown ∷ []) (few : length (v ++ z) < longestToken) (not-came : answerCame (length v) (nextToken File (v ++ z) startCursor) ≡ false) where
+  by-gives : (g : Gives) → reading ended blank startCursor false v ≡ g → Tells (v ++ z) startCursor z ended over g → Counts 0 (0 + length v) g → toNext g ≡ nextOf (nextToken File (v ++ z) startCursor)
   unfolding toNext
   by-gives (handed t d u) g p c = ap nextOf (sym (read-same (v ++ z) few t d (p .0)))
   by-gives (never w) g p c = ap nextOf (sym (refused-same (v ++ z) few w p))
@@ -136,9 +137,9 @@ module _ (ended : Bool) (v z : List ℕ) (over : ended ≡ true → z ≡ []) (o
       let a = length-append v z in
       let f = foreign-next v startCursor blank startCursor false v (stands-start v) m d l u q (omega arith) [] in
       let r = refused-same (v ++ z) few (fault ForeignByte (length v)) (ap (λ (x : List ℕ). nextLexeme (v ++ x) 0) (open-end e) ∙ f) in
-      absurd (true-false (answerCame (length v) (nextToken (v ++ z) startCursor)) (ap (answerCame (length v)) r ∙ came-5 (length v)) not-came)
+      absurd (true-false (answerCame (length v) (nextToken File (v ++ z) startCursor)) (ap (answerCame (length v)) r ∙ came-5 (length v)) not-came)
 
-  pub at-start : toNext (reading ended blank startCursor false v) ≡ nextOf (nextToken (v ++ z) startCursor)
+  pub at-start : toNext (reading ended blank startCursor false v) ≡ nextOf (nextToken File (v ++ z) startCursor)
   at-start =
       let a = length-append v z in
       by-gives (reading ended blank startCursor false v) refl (reading-tells (v ++ z) startCursor z ended over blank startCursor false v (stands-start v z))
@@ -182,11 +183,11 @@ module _ (s : List ℕ) (c : Cursor) (h : Brief s c) (ended : Bool) where
   unended true e = never-ended (sym e)
   unended false e = refl
 
-  module _ (a : Answer) (e : a ≡ nextToken text startCursor) (t : Bool) (f : t ≡ answerCame (length s - 1) a) (g : t ≡ false) where
+  module _ (a : Answer) (e : a ≡ nextToken File text startCursor) (t : Bool) (f : t ≡ answerCame (length s - 1) a) (g : t ≡ false) where
     told-start : toNext (reading ended blank startCursor false v) ≡ nextOf a
     told-start =
         let n : length s - 1 ≡ length v = sym size in
-        let w : nextToken text startCursor ≡ nextToken (v ++ tail ended) startCursor = ap (λ (x : List ℕ). nextToken x startCursor) (text-of ended) in
+        let w : nextToken File text startCursor ≡ nextToken File (v ++ tail ended) startCursor = ap (λ (x : List ℕ). nextToken File x startCursor) (text-of ended) in
         at-start ended v (tail ended) (over ended) (unended ended) (subst (λ (x : List ℕ). length x < longestToken) (text-of ended) (text-few ended))
         (ap (answerCame (length v)) (sym w ∙ sym e) ∙ ap (λ (i : ℕ). answerCame i a) (sym n) ∙ sym f ∙ g)
         ∙ ap nextOf (sym w ∙ sym e)
@@ -222,10 +223,10 @@ module _ (s : List ℕ) (c : Cursor) (h : Brief s c) (ended : Bool) where
         go (Answer.Read t d) k =
             let m = counted t d (reading ended blank startCursor false v) (told-start ∙ ap nextOf k)
             (reading-counts ended blank startCursor false v (record { short = (let i = able .short in omega arith); line = omega arith; column = omega arith })) in
-            let p = read-promises false text startCursor t d (sym e ∙ k) in
+            let p = read-promises File text startCursor t d (sym e ∙ k) in
             record { sums = m; start = (let i = m .offset in omega (arith, p .ahead)) }
         go (Answer.Refused w b) k =
-            let i = placed-inside text startCursor w (refusal-placed text startCursor false w b (sym e ∙ k)) in
+            let i = placed-inside text startCursor w (refusal-placed text startCursor File w b (sym e ∙ k)) in
             let l = text-size ended in
             let n = h .held .able .short in
             let o = h .held .some in
@@ -234,8 +235,8 @@ module _ (s : List ℕ) (c : Cursor) (h : Brief s c) (ended : Bool) where
 -- ---- the call came to the unknown byte: more is wanted
 
 -- a refusal 5 points at a byte of the text
-five-inside : (s : List ℕ) (n : ℕ) → nextToken s startCursor ≡ Answer.Refused (fault ForeignByte n) startCursor → n < length s
-five-inside s n e = refusal-placed s startCursor false (fault ForeignByte n) startCursor e .inside
+five-inside : (s : List ℕ) (n : ℕ) → nextToken File s startCursor ≡ Answer.Refused (fault ForeignByte n) startCursor → n < length s
+five-inside s n e = refusal-placed s startCursor File (fault ForeignByte n) startCursor e .inside
 
 came-fault : (n : ℕ) (w : Fault) → answerCame n (Answer.Refused w startCursor) ≡ true → w ≡ fault ForeignByte n
 unfolding answerCame
@@ -254,7 +255,7 @@ IsMore (handed t d u) = ⊥
 IsMore (more m d l u) = Unit {0}
 IsMore (never w) = ⊥
 
-module _ (ended : Bool) (v z : List ℕ) (over : ended ≡ true → z ≡ []) (few : length (v ++ z) < longestToken) (came : answerCame (length v) (nextToken (v ++ z) startCursor) ≡ true) where
+module _ (ended : Bool) (v z : List ℕ) (over : ended ≡ true → z ≡ []) (few : length (v ++ z) < longestToken) (came : answerCame (length v) (nextToken File (v ++ z) startCursor) ≡ true) where
   asks : (g : Gives) → reading ended blank startCursor false v ≡ g → Tells (v ++ z) startCursor z ended over g → Tells (v ++ []) startCursor [] ended (λ _. refl) g → IsMore g
   asks (handed t d u) g p q = came-read (length v) t d (sym (ap (answerCame (length v)) (read-same (v ++ z) few t d (p .0))) ∙ came)
   asks (more m d l u) g p q = tt
@@ -296,11 +297,11 @@ more-place ended m c l u (Waits w) i = go ended i
     go false i = refl
 more-place ended m c l u (Stops w) i = absurd i
 
-module _ (s : List ℕ) (c : Cursor) (h : Brief s c) (ended : Bool) (n : ℕ) (i : n ≡ length s - 1) (a : Answer) (e : a ≡ nextToken (text s c h ended) startCursor) (t : Bool) (f : t ≡ answerCame n a) (g : t ≡ true) where
+module _ (s : List ℕ) (c : Cursor) (h : Brief s c) (ended : Bool) (n : ℕ) (i : n ≡ length s - 1) (a : Answer) (e : a ≡ nextToken File (text s c h ended) startCursor) (t : Bool) (f : t ≡ answerCame n a) (g : t ≡ true) where
   brief-asks : IsMore (reading ended blank c false (handOf s))
   brief-asks =
       let k : n ≡ length (handOf s) = i ∙ sym (size s c h ended) in
-      let w = ap (λ (x : List ℕ). nextToken x startCursor) (text-of s c h ended ended) in
+      let w = ap (λ (x : List ℕ). nextToken File x startCursor) (text-of s c h ended ended) in
       next-more c (reading ended blank startCursor false (handOf s)) (reading ended blank c false (handOf s)) (reading-from-start ended c false (handOf s))
       (start-asks ended (handOf s) (tail s c h ended ended) (over s c h ended ended) (subst (λ (x : List ℕ). length x < longestToken) (text-of s c h ended ended) (text-few s c h ended ended))
       (ap (answerCame (length (handOf s))) (sym w ∙ sym e) ∙ ap (λ (j : ℕ). answerCame j a) (sym k) ∙ sym f ∙ g))

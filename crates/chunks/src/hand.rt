@@ -13,6 +13,7 @@ use lexer::Answer;
 use lexer::Cursor;
 use lexer::Fault;
 use lexer::Refusal;
+use lexer::Source;
 use lexer::Token;
 use lexer::next_token;
 ghost use mathlib.Core.Path.{_≡_};
@@ -21,6 +22,7 @@ ghost use mathlib.Core.Bool.{false, cond};
 ghost use lib.ListN.{length, drop};
 ghost use Rattle.lexer.specs.Cursor.{longest, startCursor};
 ghost use Rattle.lexer.specs.Token.{nextToken};
+ghost use Rattle.lexer.specs.declared.token.Source.the-variants.{File};
 ghost use Rattle.chunks.specs.Answers.{handOf};
 ghost use Rattle.chunks.specs.Hand.{toNext, nextBy, TokenFits, Fits, Held, Brief, Starting};
 ghost use Rattle.chunks.specs.Reader.{movedBy, judged as judgedBy, reading};
@@ -137,7 +139,7 @@ fn read_apart(shown: &[u8], mode: Mode, cursor: Cursor, layout: bool, ended: boo
 // Layout and token at once, by the token call from the start of the bytes at hand.
 fn call_at_start(shown: &[u8], ended: bool) -> Answer
     requires { ⌜ 0 < length (now shown) ⌝ }
-    ensures { λ r. ⌜ r ≡ nextToken (cond ended (handOf (now (shown .entry))) (now (shown .entry))) startCursor ⌝ }
+    ensures { λ r. ⌜ r ≡ nextToken File (cond ended (handOf (now (shown .entry))) (now (shown .entry))) startCursor ⌝ }
 {
     let start = Cursor {
         offset: 0,
@@ -146,9 +148,9 @@ fn call_at_start(shown: &[u8], ended: bool) -> Answer
     };
     if ended {
         let n = shown.len() - 1;
-        return next_token(&shown[0..n], start);
+        return next_token(&shown[0..n], start, Source::File);
     }
-    next_token(shown, start)
+    next_token(shown, start, Source::File)
 }
 
 // Where the reading does not come to the unknown byte that is all there is to do; else more is wanted, and the layout that is passed need not be kept.

@@ -1,5 +1,5 @@
--- What holds of this crate: whatever a function is given, one number returned and one content of each lent slice are permitted. The number
--- function's contract is an equation (`answer-coincides` of `fields`), and so is the text function's; of the line function it rests on that of the line call. Assumes nothing.
+-- What holds of this crate: whatever a function is given, one number returned and one content of each lent slice are permitted. The text
+-- function's contract is an equation; of the line function it rests on that of the line call. Assumes nothing.
 use Prim.Native.Nat.{ℕ}
 use mathlib.Core.Path.{_≡_, sym, _∙_}
 use mathlib.Core.List.{List}

@@ -2,19 +2,16 @@
 // function, each field and each number for those who call it. Nothing is asked of the caller: each contract ties a function to the call it is named after.
 // The token call is in `ffi_token`, the clause call in `ffi_clause`.
 use fields::READ;
-use fields::put_answer;
 use fields::put_count;
 use fields::put_fault;
 use fields::put_text;
 use lexer::Cursor;
-use lexer::next_number_token;
 use lexer::next_token_text;
 use reader::LineAnswer;
 use reader::list_clause;
 ghost use mathlib.Core.Path.{_≡_};
-ghost use Rattle.lexer.specs.Token.{nextNumberToken};
 ghost use Rattle.lexer.specs.Text.{nextTokenText};
-ghost use Rattle.fields.specs.Fields.{cursorAt, leaves, answerLeaves};
+ghost use Rattle.fields.specs.Fields.{cursorAt, leaves};
 ghost use Rattle.ffi.specs.Parts.{left, textLeaves, lineLeaves, LineLeft};
 
 fn put_line(answer: LineAnswer, fields: &mut [u64; 5]) -> u32
@@ -27,29 +24,6 @@ fn put_line(answer: LineAnswer, fields: &mut [u64; 5]) -> u32
             READ
         }
     }
-}
-
-#[no_mangle]
-pub extern "C" fn thrinvage_next_number_token(
-    text: &[u8],
-    offset: usize,
-    line: usize,
-    column: usize,
-    token: &mut [u64; 8],
-) -> u32
-    ensures { λ r. ⌜ leaves r (now (token .exit)) ≡ answerLeaves (nextNumberToken (now (text .entry)) (cursorAt offset line column)) (now (token .entry)) ⌝ }
-{
-    put_answer(
-        next_number_token(
-            text,
-            Cursor {
-                offset,
-                line,
-                column,
-            },
-        ),
-        token,
-    )
 }
 
 #[no_mangle]

@@ -4,6 +4,7 @@ use Prim.Native.Nat.{ℕ, _≤_}
 use mathlib.Core.Path.{_≡_}
 use mathlib.Core.Bool.{cond}
 use mathlib.Core.List.{List, [], _∷_, _++_}
+use lib.Dec.{eqb}
 use lib.Ieee.{Float, eq, toBits, binary64}
 use lib.ListN.{length, set}
 use lib.Seq.{sets}
@@ -18,6 +19,8 @@ use Rattle.lexer.specs.declared.text.Part.{Part}
 use Rattle.lexer.specs.declared.text.Part.the-variants.{Source, Scratch}
 use Rattle.lexer.specs.declared.text.TextAnswer.{TextAnswer}
 use Rattle.lexer.specs.declared.token.Answer.{Answer}
+use Rattle.lexer.specs.declared.token.Source as lexer
+use Rattle.lexer.specs.declared.token.Source.the-variants.{File, Field}
 use Rattle.lexer.specs.declared.token.Token.{Token}
 
 -- a cursor, from its numbers
@@ -29,6 +32,10 @@ pub data Outcome : Type 0 where
   leaves : ℕ → List ℕ → Outcome
 
 -- ---- the numbers of the header
+
+-- enum thrinvage_source; a number that is not in it is a file's
+unfoldable pub sourceOf : ℕ → lexer.Source
+sourceOf n = cond (eqb n 1) Field File
 
 -- enum thrinvage_kind
 abbrev pub kindNumber : Kind → ℕ

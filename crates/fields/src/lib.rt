@@ -6,6 +6,7 @@ use lexer::Cursor;
 use lexer::Fault;
 use lexer::Kind;
 use lexer::Part;
+use lexer::Source;
 use lexer::TextAnswer;
 use lexer::Token;
 use lexer::Value;
@@ -13,7 +14,7 @@ use lexer::refusal_number;
 ghost use mathlib.Core.Path.{_≡_};
 ghost use lib.Seq.{sets};
 ghost use Rattle.lexer.specs.Refusal.{numberOf};
-ghost use Rattle.fields.specs.Fields.{leaves, kindNumber, valueKind, valueBits, bitsOf, refusedFields, cursorFields, kindFields, tokenFields, partFields, countFields, answerLeaves, answerTextLeaves, Room};
+ghost use Rattle.fields.specs.Fields.{leaves, sourceOf, kindNumber, valueKind, valueBits, bitsOf, refusedFields, cursorFields, kindFields, tokenFields, partFields, countFields, answerLeaves, answerTextLeaves, Room};
 
 const OFFSET: usize = 0;
 
@@ -42,6 +43,20 @@ const COUNT: usize = 4;
 
 // What is returned where nothing is refused.
 pub const READ: u32 = 0;
+
+// The number of a field.
+const FIELD: u32 = 1;
+
+// What a text is, by its number. Every other than a field's is a file's: the stricter rule.
+pub fn source_of(number: u32) -> Source
+    ensures { λ r. ⌜ r ≡ sourceOf number ⌝ }
+{
+    if number == FIELD {
+        Source::Field
+    } else {
+        Source::File
+    }
+}
 
 // The number of a token's kind.
 fn kind_number(kind: Kind) -> u64

@@ -1,4 +1,4 @@
--- What an answer of the token call or of the number call tells whoever reads on from it. Assumes nothing.
+-- What an answer of the token call tells whoever reads on from it. Assumes nothing.
 use mathlib.Core.Path.{_≡_, refl, sym, _∙_, ap}
 use mathlib.Core.Bool.{Bool, true, false, cond}
 use mathlib.Core.List.{List}
@@ -7,11 +7,12 @@ use native.Mathlib.Omega.{arith}
 use borrow.Author.Tests.{le-leb}
 use lib.ListN.{length}
 use Rattle.lexer.specs.Cursor.{longest, startCursor, walk, part, moveTo, valid, Valid}
-use Rattle.lexer.specs.Token.{Lexeme, lexeme, refused, readLexeme, answered, notValid, call}
+use Rattle.lexer.specs.Token.{Lexeme, lexeme, refused, readLexeme, answered, notValid, nextToken}
 use Rattle.lexer.specs.declared.refusal.Fault.{Fault}
 use Rattle.lexer.specs.declared.cursor.Cursor.{Cursor}
 use Rattle.lexer.specs.declared.token.Token.{Token}
 use Rattle.lexer.specs.declared.token.Answer.{Answer}
+use Rattle.lexer.specs.declared.token.Source.{Source}
 use Rattle.lexer.proofs.Cursors.{is-valid, move-offset, move-valid}
 use Rattle.lexer.proofs.Promises.{lexeme-ends}
 
@@ -35,7 +36,7 @@ passes n c v =
 pub start-passes : (n : ℕ) → n ≤ longest → valid n startCursor ≡ true
 start-passes n h = passes n startCursor (record { short = h; offset = omega arith; line = omega arith; column = omega arith })
 
-module _ (field : Bool) (s : List ℕ) (c : Cursor) where
+module _ (origin : Source) (s : List ℕ) (c : Cursor) where
   answer : Bool → Lexeme → Answer
   answer b l = cond b (answered s c l) (Answer.Refused notValid c)
 
@@ -44,7 +45,7 @@ module _ (field : Bool) (s : List ℕ) (c : Cursor) where
   unfolding moveTo
   over-bytes d e m o = sym m ∙ ap (λ (n : ℕ). walk c (part (c .offset) n s)) o
 
-  of-answer : (t : Token) (d : Cursor) (b : Bool) (l : Lexeme) → valid (length s) c ≡ b → readLexeme field s (c .offset) ≡ l → answer b l ≡ Answer.Read t d → Promised s c t d
+  of-answer : (t : Token) (d : Cursor) (b : Bool) (l : Lexeme) → valid (length s) c ≡ b → readLexeme origin s (c .offset) ≡ l → answer b l ≡ Answer.Read t d → Promised s c t d
   unfolding answer answered
   of-answer t d false l f g h = let z : _≡_ {A = ℕ} 0 1 = cc in absurd (omega arith)
   of-answer t d true (refused w) f g h = let z : _≡_ {A = ℕ} 0 1 = cc in absurd (omega arith)
@@ -52,7 +53,7 @@ module _ (field : Bool) (s : List ℕ) (c : Cursor) where
       let v = is-valid (length s) c f in
       let q : u ≡ t = cc in
       let m : moveTo s c e ≡ d = cc in
-      let p = lexeme-ends field s (c .offset) t e x (v .offset) (cc) in
+      let p = lexeme-ends origin s (c .offset) t e x (v .offset) (cc) in
       let k : c .offset ≤ e = omega (arith, p .behind, p .ahead) in
       let o : e ≡ d .offset = sym (move-offset s c e k (p .inside)) ∙ ap (λ (y : Cursor). y .offset) m in
       let n : Valid (length s) d = rw m at (move-valid s c e k (p .inside) v) in
@@ -67,9 +68,9 @@ module _ (field : Bool) (s : List ℕ) (c : Cursor) where
         walked = over-bytes d e m o;
       }
 
-  pub read-promises : (t : Token) (d : Cursor) → call field s c ≡ Answer.Read t d → Promised s c t d
+  pub read-promises : (t : Token) (d : Cursor) → nextToken origin s c ≡ Answer.Read t d → Promised s c t d
   unfolding answer
-  read-promises t d h = of-answer t d (valid (length s) c) (readLexeme field s (c .offset)) refl refl h
+  read-promises t d h = of-answer t d (valid (length s) c) (readLexeme origin s (c .offset)) refl refl h
 
   of-refusal : (w : Fault) (d : Cursor) (b : Bool) (l : Lexeme) → answer b l ≡ Answer.Refused w d → d ≡ c
   unfolding answer answered
@@ -77,6 +78,6 @@ module _ (field : Bool) (s : List ℕ) (c : Cursor) where
   of-refusal w d true (refused v) h = cc
   of-refusal w d true (lexeme u e x) h = let z : _≡_ {A = ℕ} 0 1 = cc in absurd (omega arith)
 
-  pub refused-here : (w : Fault) (d : Cursor) → call field s c ≡ Answer.Refused w d → d ≡ c
+  pub refused-here : (w : Fault) (d : Cursor) → nextToken origin s c ≡ Answer.Refused w d → d ≡ c
   unfolding answer
-  refused-here w d h = of-refusal w d (valid (length s) c) (readLexeme field s (c .offset)) h
+  refused-here w d h = of-refusal w d (valid (length s) c) (readLexeme origin s (c .offset)) h

@@ -8,10 +8,11 @@ use lib.ListN.{getD}
 use borrow.Author.Tests.{eqb-true}
 use Rattle.lexer.specs.Chars.{classOf, openParen, closeParen, comma, openBracket, closeBracket, openBrace, closeBrace}
 use Rattle.lexer.specs.Name.{nameToken}
-use Rattle.lexer.specs.Token.{mark, soloTo, plainToken, plainNumber, plain, Text, Lexeme, lexeme, refused, isComma, plainLexeme, readLexeme}
+use Rattle.lexer.specs.Token.{mark, soloTo, plainToken, Text, Lexeme, lexeme, refused, isComma, plainLexeme, readLexeme}
 use Rattle.lexer.specs.declared.kind.Plain.{Plain}
 use Rattle.lexer.specs.declared.token.Mark.{Mark}
 use Rattle.lexer.specs.declared.token.Token.{Token}
+use Rattle.lexer.specs.declared.token.Source.{Source}
 use Rattle.lexer.proofs.EachToken.{Each, plain-each, read-each}
 use Rattle.lexer.proofs.Looks.{Seen}
 use Rattle.lexer.proofs.Spans.{by-test}
@@ -36,12 +37,11 @@ mark-says layout x h =
     (λ _. by-test Says-mark (eqb x closeBrace) _ _ (λ _. refl)
     (λ _. by-test Says-mark (eqb x comma) _ _ (λ t. cc) (λ _. tt)))))))
 
--- a token that is not quoted, by whether a comma stands at its front: where one does, the number call reads nothing
-says : (field : Bool) (s : List ℕ) (at : ℕ) (layout : Bool) (x : ℕ) (v : Bool) → eqb x comma ≡ v → Says v (plain field s at layout x)
-unfolding plainToken plainNumber nameToken soloTo mark classOf isComma
-says true s at layout x true h = rw (eqb-true x comma h) tt
-says false s at layout x true h = rw (eqb-true x comma h) refl
-says field s at layout x false h =
+-- a token that is not quoted, by whether a comma stands at its front
+says : (origin : Source) (s : List ℕ) (at : ℕ) (layout : Bool) (x : ℕ) (v : Bool) → eqb x comma ≡ v → Says v (plainToken origin s at layout x)
+unfolding plainToken nameToken soloTo mark classOf isComma
+says origin s at layout x true h = rw (eqb-true x comma h) refl
+says origin s at layout x false h =
     plain-each (λ k u e. isComma k ≡ false) s at x
     (record {
       word = λ e f. (refl, refl);
@@ -54,9 +54,9 @@ says field s at layout x false h =
       float = λ y e. refl;
       integer = λ n e l. refl;
     })
-    field layout
+    origin layout
 
-module _ (field : Bool) (s : List ℕ) (from : ℕ) (t : Token) (e : ℕ) (x : Text) where
+module _ (origin : Source) (s : List ℕ) (from : ℕ) (t : Token) (e : ℕ) (x : Text) where
   -- whether it is the Comma, by the byte where it starts
   abbrev Tells : Lexeme → Type 0
   Tells (lexeme u d y) = isComma (u .kind) ≡ eqb (getD s (u .start) 0) comma
@@ -68,8 +68,8 @@ module _ (field : Bool) (s : List ℕ) (from : ℕ) (t : Token) (e : ℕ) (x : T
   tells at b l v h (Plain.Refused w) f = tt
 
   -- a token that was read is the Comma exactly if a comma stands where it starts
-  pub commas : readLexeme field s from ≡ lexeme t e x → isComma (t .kind) ≡ eqb (getD s (t .start) 0) comma
+  pub commas : readLexeme origin s from ≡ lexeme t e x → isComma (t .kind) ≡ eqb (getD s (t .start) 0) comma
   unfolding isComma
   commas h =
-      rw h at (read-each field s Tells (λ w. tt) (λ at l bs d f. rw (l .it)) (λ at l bs d f. rw (l .it))
-      (λ at b l n layout. tells at b l (eqb b comma) refl (plain field s at layout b) (says field s at layout b (eqb b comma) refl)) from)
+      rw h at (read-each origin s Tells (λ w. tt) (λ at l bs d f. rw (l .it)) (λ at l bs d f. rw (l .it))
+      (λ at b l n layout. tells at b l (eqb b comma) refl (plainToken origin s at layout b) (says origin s at layout b (eqb b comma) refl)) from)

@@ -14,7 +14,7 @@ use Rattle.lexer.specs.Look.{peek, lookahead}
 use Rattle.lexer.specs.Name.{alphanumerics, graphics, runToken, nameToken}
 use Rattle.lexer.specs.Number.{numberToken}
 use Rattle.lexer.specs.Quoted.{Quoted, decode}
-use Rattle.lexer.specs.Token.{mark, barTo, pointTo, soloTo, floated, valued, numbered, plainToken, plainNumber, plain, decoded, Lexeme, lexeme, refused, token, plainLexeme, quotedTo, quotedLexeme, lexemeTo, afterLayout, readLexeme}
+use Rattle.lexer.specs.Token.{mark, barTo, pointTo, soloTo, floated, valued, numbered, sourced, plainToken, decoded, Lexeme, lexeme, refused, token, plainLexeme, quotedTo, quotedLexeme, lexemeTo, afterLayout, readLexeme}
 use Rattle.lexer.specs.declared.refusal.Fault.{Fault}
 use Rattle.lexer.specs.declared.chars.Look.{Look}
 use Rattle.lexer.specs.declared.chars.Peek.{Peek}
@@ -28,6 +28,7 @@ use Rattle.lexer.specs.declared.kind.Value.the-variants.{Nothing}
 use Rattle.lexer.specs.declared.number.Numeral.{Numeral}
 use Rattle.lexer.specs.declared.number.NumberToken.{NumberToken}
 use Rattle.lexer.specs.declared.token.Mark.{Mark}
+use Rattle.lexer.specs.declared.token.Source.{Source}
 use Rattle.lexer.proofs.Looks.{Seen, look-byte}
 use Rattle.lexer.proofs.Spans.{by-test}
 
@@ -99,22 +100,21 @@ module _ (P : Kind → Value → ℕ → Type 0) where
     value-each e (Numeral.Integer n) = by-test Each (ltb n beyond) _ _ (r .integer n e) (λ _. tt)
     value-each e (Numeral.Float m sign y d) = float-each e (floatValue m sign y d)
 
-    number-each : (field : Bool) (n : NumberToken) → Each (numbered field at n)
+    number-each : (n : NumberToken) → Each (numbered at n)
     unfolding numbered
-    number-each field (NumberToken.Whole n e) = value-each e n
-    number-each field (NumberToken.Partial n e) = by-test Each field _ _ (λ _. value-each e n) (λ _. tt)
-    number-each field (NumberToken.Refused w) = tt
+    number-each (NumberToken.Whole n e) = value-each e n
+    number-each (NumberToken.Partial n e) = tt
+    number-each (NumberToken.Refused w) = tt
 
     -- each of them
-    pub plain-each : (field layout : Bool) → Each (plain field s at layout x)
-    unfolding plainToken plainNumber
-    plain-each field layout =
-        by-test Each field _ _ (λ _. by-test Each (is decimalDigit x) _ _ (λ _. number-each true (numberToken s at)) (λ _. name-each))
-        (λ _. by-test Each (is decimalDigit x) _ _ (λ _. number-each false (numberToken s at))
+    pub plain-each : (origin : Source) (layout : Bool) → Each (plainToken origin s at layout x)
+    unfolding plainToken
+    plain-each origin layout =
+        by-test Each (is decimalDigit x) _ _ (λ _. number-each (sourced origin (numberToken s at)))
         (λ _. by-test Each (is soloChar x) _ _ (λ _. solo-each layout (mark layout x) refl)
         (λ _. by-test Each (is capitalLetter x) _ _ (λ _. variable-each)
         (λ _. by-test Each (is underscoreChar x) _ _ (λ _. variable-each)
-        (λ _. by-test Each (eqb x point) _ _ (λ t. end-each (eqb-true x point t) (peek s (at + 1))) (λ _. name-each))))))
+        (λ _. by-test Each (eqb x point) _ _ (λ t. end-each (eqb-true x point t) (peek s (at + 1))) (λ _. name-each)))))
 
 -- ---- any token: Q holds of what is read
 
@@ -123,28 +123,27 @@ abbrev pub Quotes : List ℕ → (Lexeme → Type 0) → Kind → ℕ → Type 0
 Quotes s Q k q = (at : ℕ) → Seen s at q → (bs : List ℕ) (e : ℕ) → decode q at s (at + 1) ≡ Quoted.whole bs e → Q (lexeme (token k Nothing at) e (decoded bs))
 
 -- of a refusal, a quoted token, another token: so of any
-module _ (field : Bool) (s : List ℕ) (Q : Lexeme → Type 0) (not-read : (w : Fault) → Q (refused w)) (names : Quotes s Q Name singleQuote) (strings : Quotes s Q String doubleQuote)
-    (others : (at x : ℕ) → Seen s at x → is quoteChar x ≡ false → (layout : Bool) → Q (plainLexeme at (plain field s at layout x))) where
+module _ (origin : Source) (s : List ℕ) (Q : Lexeme → Type 0) (not-read : (w : Fault) → Q (refused w)) (names : Quotes s Q Name singleQuote) (strings : Quotes s Q String doubleQuote)
+    (others : (at x : ℕ) → Seen s at x → is quoteChar x ≡ false → (layout : Bool) → Q (plainLexeme at (plainToken origin s at layout x))) where
   quoted-each : (k : Kind) (q : ℕ) → Quotes s Q k q → (at x : ℕ) → Seen s at x → eqb x q ≡ true → (d : Quoted) → decode q at s (at + 1) ≡ d → Q (quotedTo k at d)
   unfolding quotedTo
   quoted-each k q h at x l t (Quoted.whole bs e) f = h at (rw (eqb-true x q t) at l) bs e f
   quoted-each k q h at x l t (Quoted.refused w) f = not-read w
 
-  look-each : (at : ℕ) (layout : Bool) (r : Look) → lookahead s at ≡ r → Q (lexemeTo field s at layout r)
+  look-each : (at : ℕ) (layout : Bool) (r : Look) → lookahead s at ≡ r → Q (lexemeTo origin s at layout r)
   unfolding lexemeTo quotedLexeme
   look-each at layout (Look.Refused w) f = not-read w
   look-each at layout (Look.Byte x) f =
       let l = look-byte s at x f in
       by-test Q (is quoteChar x) _ _
       (λ _. by-test Q (eqb x singleQuote) _ _ (λ t. quoted-each Name singleQuote names at x l t (decode singleQuote at s (at + 1)) refl)
-      (λ _. by-test Q field _ _ (λ _. not-read _)
-      (λ _. by-test Q (eqb x doubleQuote) _ _ (λ t. quoted-each String doubleQuote strings at x l t (decode doubleQuote at s (at + 1)) refl) (λ _. not-read _))))
+      (λ _. by-test Q (eqb x doubleQuote) _ _ (λ t. quoted-each String doubleQuote strings at x l t (decode doubleQuote at s (at + 1)) refl) (λ _. not-read _)))
       (λ n. others at x l n layout)
 
-  after-each : (from : ℕ) (r : Scan) → Q (afterLayout field s from r)
+  after-each : (from : ℕ) (r : Scan) → Q (afterLayout origin s from r)
   unfolding afterLayout
   after-each from (Scan.Refused w) = not-read w
   after-each from (Scan.Stop at) = look-each at (ltb from at) (lookahead s at) refl
 
-  pub read-each : (from : ℕ) → Q (readLexeme field s from)
+  pub read-each : (from : ℕ) → Q (readLexeme origin s from)
   read-each from = after-each from (layoutEnd s from)

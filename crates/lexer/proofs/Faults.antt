@@ -1,4 +1,4 @@
--- Where a refusal of the token call or of the number call points: 01's table of refusals, its column "offset". Assumes nothing.
+-- Where a refusal of the token call points: 01's table of refusals, its column "offset". Assumes nothing.
 use mathlib.Core.Path.{_≡_, refl, sym, _∙_, subst}
 use mathlib.Core.Logic.{⊎-elim}
 use mathlib.Core.Bool.{Bool, true, false, cond, _&&_, _||_}
@@ -19,7 +19,7 @@ use Rattle.lexer.specs.Number.{radixClosed, radixTo, radixConstant, char
 use Rattle.lexer.specs.Number as Number
 use Rattle.lexer.specs.Quoted.{escapeOf, coded, closed, numericEscape, escapeTo, quoteTo, unquotable, itemTo, quotedItem, Quoted, withChar, outOfLimit, decode}
 use Rattle.lexer.specs.Refusal.{fault}
-use Rattle.lexer.specs.Token.{mark, barTo, pointTo, soloTo, floated, valued, numbered, plainToken, plainNumber, plain, Lexeme, lexeme, refused, plainLexeme, quotedTo, quotedLexeme, lexemeTo, afterLayout, readLexeme, answered, notValid, call}
+use Rattle.lexer.specs.Token.{mark, barTo, pointTo, soloTo, floated, valued, numbered, sourced, plainToken, Lexeme, lexeme, refused, plainLexeme, quotedTo, quotedLexeme, lexemeTo, afterLayout, readLexeme, answered, notValid, nextToken}
 use Rattle.lexer.specs.declared.refusal.Fault.{Fault}
 use Rattle.lexer.specs.declared.refusal.Refusal.{Refusal}
 use Rattle.lexer.specs.declared.refusal.Refusal.the-variants.{EndOfText, UnclosedComment, NoToken, BadQuoted, ForeignByte, SetAside, OutOfLimit, NotValid, NoRoom, TooManyTokens, NoReading, NoText, TooLong, NoPack, TokenTooLong, UnknownVersion}
@@ -38,6 +38,7 @@ use Rattle.lexer.specs.declared.number.NumberToken.{NumberToken}
 use Rattle.lexer.specs.declared.quoted.Item.{Item}
 use Rattle.lexer.specs.declared.token.Answer.{Answer}
 use Rattle.lexer.specs.declared.token.Mark.{Mark}
+use Rattle.lexer.specs.declared.token.Source.{Source}
 use Rattle.lexer.proofs.Bases.{digits-end}
 use Rattle.lexer.proofs.Cursors.{both, is-valid}
 use Rattle.lexer.proofs.FirstMark.{Clear, Came, ends, foreign, unended, comment-came}
@@ -46,6 +47,7 @@ use Rattle.lexer.proofs.Looks.{Seen, Strange, inside-or-not, peek-end, 
 use Rattle.lexer.proofs.Numbers.{EndsOf, number-ends}
 use Rattle.lexer.proofs.Promises.{class-digit}
 use Rattle.lexer.proofs.QuotedItems.{decode-hold}
+use Rattle.lexer.proofs.Sources.{by-source, sourced-ends}
 use Rattle.lexer.proofs.Spans.{by-test}
 use Rattle.lexer.proofs.Steps.{drop-at, drop-end}
 
@@ -365,11 +367,11 @@ module _ (s : List ℕ) (c : Cursor) (T : ℕ → Type 0) where
     valued-placed e (Numeral.Float m sign x f) = floated-placed e (floatValue m sign x f)
 
     -- a number that reaches the end of the text ends there
-    numbered-placed : (field : Bool) (n : NumberToken) → EndsOf s at n → OfNumber n → OfPlain (numbered field at n)
+    numbered-placed : (n : NumberToken) → EndsOf s at n → OfNumber n → OfPlain (numbered at n)
     unfolding numbered
-    numbered-placed field (NumberToken.Whole n e) q p = valued-placed e n
-    numbered-placed field (NumberToken.Partial n e) q p = by-test OfPlain field _ _ (λ _. valued-placed e n) (λ _. q .last)
-    numbered-placed field (NumberToken.Refused w) q p = p
+    numbered-placed (NumberToken.Whole n e) q p = valued-placed e n
+    numbered-placed (NumberToken.Partial n e) q p = q .last
+    numbered-placed (NumberToken.Refused w) q p = p
 
     -- names and variables
     run-placed : (lo hi k : ℕ) → k ≤ length s → OfScan (runEnd lo hi k (drop k s))
@@ -420,18 +422,19 @@ module _ (s : List ℕ) (c : Cursor) (T : ℕ → Type 0) where
           (λ _. by-test OfPlain (is layoutChar y) _ _ (λ _. tt)
           (λ _. by-test OfPlain (eqb y percent) _ _ (λ _. tt) (λ _. subst (λ (z : ℕ). OfPlain (nameToken s at z)) n name-placed)))
 
-      digit-placed : (field : Bool) → is decimalDigit x ≡ true → OfPlain (numbered field at (numberToken s at))
-      digit-placed field t = numbered-placed field (numberToken s at) (number-ends s at x l (class-digit x (eqb-true (classOf x) decimalDigit t))) number-placed
+      digit-placed : (origin : Source) → is decimalDigit x ≡ true → OfPlain (numbered at (sourced origin (numberToken s at)))
+      digit-placed origin t =
+          let e = number-ends s at x l (class-digit x (eqb-true (classOf x) decimalDigit t)) in
+          numbered-placed _ (sourced-ends s at origin (numberToken s at) e) (by-source OfNumber origin (numberToken s at) (λ m k p. tt) number-placed)
 
-      plain-placed : (field layout : Bool) → OfPlain (plain field s at layout x)
-      unfolding plainToken plainNumber
-      plain-placed field layout =
-          by-test OfPlain field _ _ (λ _. by-test OfPlain (is decimalDigit x) _ _ (digit-placed true) (λ _. name-placed))
-          (λ _. by-test OfPlain (is decimalDigit x) _ _ (digit-placed false)
+      plain-placed : (origin : Source) (layout : Bool) → OfPlain (plainToken origin s at layout x)
+      unfolding plainToken
+      plain-placed origin layout =
+          by-test OfPlain (is decimalDigit x) _ _ (digit-placed origin)
           (λ _. by-test OfPlain (is soloChar x) _ _ (λ _. solo-placed (mark layout x))
           (λ _. by-test OfPlain (is capitalLetter x) _ _ (λ _. alphanumeric-placed Kind.Variable)
           (λ _. by-test OfPlain (is underscoreChar x) _ _ (λ _. alphanumeric-placed Kind.Variable)
-          (λ _. by-test OfPlain (eqb x point) _ _ (λ t. end-placed (eqb-true x point t) (peek s (at + 1)) refl) (λ _. name-placed))))))
+          (λ _. by-test OfPlain (eqb x point) _ _ (λ t. end-placed (eqb-true x point t) (peek s (at + 1)) refl) (λ _. name-placed)))))
 
     of-plain : (p : Plain) → OfPlain p → OfLexeme (plainLexeme at p)
     unfolding plainLexeme
@@ -443,39 +446,38 @@ module _ (s : List ℕ) (c : Cursor) (T : ℕ → Type 0) where
     of-quoted k (Quoted.whole bs e) p = tt
     of-quoted k (Quoted.refused w) p = p
 
-    lexeme-placed : (field layout : Bool) (r : Look) → at < length s → lookahead s at ≡ r → OfLexeme (lexemeTo field s at layout r)
+    lexeme-placed : (origin : Source) (layout : Bool) (r : Look) → at < length s → lookahead s at ≡ r → OfLexeme (lexemeTo origin s at layout r)
     unfolding lexemeTo quotedLexeme
-    lexeme-placed field layout (Look.Refused w) m e = look-placed at (omega arith) w e
-    lexeme-placed field layout (Look.Byte x) m e =
+    lexeme-placed origin layout (Look.Refused w) m e = look-placed at (omega arith) w e
+    lexeme-placed origin layout (Look.Byte x) m e =
         let quoted : (k : Kind) (q : ℕ) → OfLexeme (quotedTo k at (decode q at s (at + 1))) = λ k q. of-quoted k (decode q at s (at + 1)) (decode-placed q (at + 1) (omega arith)) in
         by-test OfLexeme (is quoteChar x) _ _
         (λ _. by-test OfLexeme (eqb x singleQuote) _ _ (λ _. quoted Kind.Name singleQuote)
-        (λ _. by-test OfLexeme field _ _ (λ _. h)
-        (λ _. by-test OfLexeme (eqb x doubleQuote) _ _ (λ _. quoted Kind.String doubleQuote) (λ _. h))))
-        (λ _. of-plain (plain field s at layout x) (plain-placed x (look-byte s at x e) field layout))
+        (λ _. by-test OfLexeme (eqb x doubleQuote) _ _ (λ _. quoted Kind.String doubleQuote) (λ _. h)))
+        (λ _. of-plain (plainToken origin s at layout x) (plain-placed x (look-byte s at x e) origin layout))
 
 -- ---- the calls
 module _ (s : List ℕ) (c : Cursor) where
   inside-of : (r : Scan) → layoutEnd s (c .offset) ≡ r → Before (c .offset) (length s) r
   inside-of r f = rw f at (layout-ends s (c .offset))
 
-  after-placed : (field : Bool) → c .offset ≤ length s → (r : Scan) → layoutEnd s (c .offset) ≡ r → OfLexeme s c (Starts s c) (afterLayout field s (c .offset) r)
+  after-placed : (origin : Source) → c .offset ≤ length s → (r : Scan) → layoutEnd s (c .offset) ≡ r → OfLexeme s c (Starts s c) (afterLayout origin s (c .offset) r)
   unfolding afterLayout
-  after-placed field h (Refused w) f = subst (OfScan s c (Starts s c)) f (layout-placed s c (Starts s c) (c .offset) h)
-  after-placed field h (Stop at) f = lexeme-placed s c (Starts s c) at f field (ltb (c .offset) at) (lookahead s at) (inside-of (Stop at) f .1) refl
+  after-placed origin h (Refused w) f = subst (OfScan s c (Starts s c)) f (layout-placed s c (Starts s c) (c .offset) h)
+  after-placed origin h (Stop at) f = lexeme-placed s c (Starts s c) at f origin (ltb (c .offset) at) (lookahead s at) (inside-of (Stop at) f .1) refl
 
-  answer-placed : (field : Bool) (w : Fault) (back : Cursor) (b : Bool) (l : Lexeme) → valid (length s) c ≡ b → readLexeme field s (c .offset) ≡ l
+  answer-placed : (origin : Source) (w : Fault) (back : Cursor) (b : Bool) (l : Lexeme) → valid (length s) c ≡ b → readLexeme origin s (c .offset) ≡ l
       → cond b (answered s c l) (Answer.Refused notValid c) ≡ Answer.Refused w back → Placed s c w
   unfolding answered
-  answer-placed field w back true (lexeme t e x) v f g = let z : _≡_ {A = ℕ} 0 1 = cc in absurd (omega arith)
-  answer-placed field w back true (refused u) v f g =
+  answer-placed origin w back true (lexeme t e x) v f g = let z : _≡_ {A = ℕ} 0 1 = cc in absurd (omega arith)
+  answer-placed origin w back true (refused u) v f g =
       let q : u ≡ w = cc in
-      subst (Placed s c) q (subst (OfLexeme s c (Starts s c)) f (after-placed field (is-valid (length s) c v .offset) (layoutEnd s (c .offset)) refl))
-  answer-placed field w back false l v f g = let q : notValid ≡ w = cc in subst (Placed s c) q (refl, v)
+      subst (Placed s c) q (subst (OfLexeme s c (Starts s c)) f (after-placed origin (is-valid (length s) c v .offset) (layoutEnd s (c .offset)) refl))
+  answer-placed origin w back false l v f g = let q : notValid ≡ w = cc in subst (Placed s c) q (refl, v)
 
-  -- a refusal of the token call or, where `field`, of the number call is where 01's table puts it
-  pub refusal-placed : (field : Bool) (w : Fault) (back : Cursor) → call field s c ≡ Answer.Refused w back → Placed s c w
-  refusal-placed field w back = answer-placed field w back (valid (length s) c) (readLexeme field s (c .offset)) refl refl
+  -- a refusal of the token call is where 01's table puts it
+  pub refusal-placed : (origin : Source) (w : Fault) (back : Cursor) → nextToken origin s c ≡ Answer.Refused w back → Placed s c w
+  refusal-placed origin w back = answer-placed origin w back (valid (length s) c) (readLexeme origin s (c .offset)) refl refl
 
   -- so it is no further than the end of the text
   starts-inside : (o : ℕ) → Starts s c o → o ≤ length s
@@ -502,7 +504,7 @@ module _ (s : List ℕ) (c : Cursor) where
   placed-inside w = placed-at-inside (Starts s c) starts-inside (w .offset) (w .refusal)
 
   -- a refusal of the token at an offset, too
-  pub token-refused-inside : (field layout : Bool) (at : ℕ) (w : Fault) → at < length s → lexemeTo field s at layout (lookahead s at) ≡ refused w → w .offset ≤ length s
-  token-refused-inside field layout at w h f =
+  pub token-refused-inside : (origin : Source) (layout : Bool) (at : ℕ) (w : Fault) → at < length s → lexemeTo origin s at layout (lookahead s at) ≡ refused w → w .offset ≤ length s
+  token-refused-inside origin layout at w h f =
       placed-at-inside (λ o. o ≤ length s) (λ o q. q) (w .offset) (w .refusal)
-      (subst (OfLexeme s c (λ o. o ≤ length s)) f (lexeme-placed s c (λ o. o ≤ length s) at (omega arith) field layout (lookahead s at) h refl))
+      (subst (OfLexeme s c (λ o. o ≤ length s)) f (lexeme-placed s c (λ o. o ≤ length s) at (omega arith) origin layout (lookahead s at) h refl))

@@ -6,11 +6,12 @@ use mathlib.Core.List.{List}
 use native.Mathlib.Omega.{arith}
 use borrow.Author.Tests.{ltb-true}
 use Rattle.lexer.specs.Digits.{largestMagnitude, beyond}
-use Rattle.lexer.specs.Token.{plain, Text, Lexeme, lexeme, refused, plainLexeme, readLexeme}
+use Rattle.lexer.specs.Token.{plainToken, Text, Lexeme, lexeme, refused, plainLexeme, readLexeme}
 use Rattle.lexer.specs.declared.kind.Plain.{Plain}
 use Rattle.lexer.specs.declared.kind.Value.{Value}
 use Rattle.lexer.specs.declared.kind.Value.the-variants.{Integer, Float, Nothing}
 use Rattle.lexer.specs.declared.token.Token.{Token}
+use Rattle.lexer.specs.declared.token.Source.{Source}
 use Rattle.lexer.proofs.EachToken.{Each, plain-each, read-each}
 
 -- a value, if it is an integer, is at most that of the limit
@@ -29,9 +30,9 @@ unfolding plainLexeme
 read-within at (Plain.Whole k v e) h = h
 read-within at (Plain.Refused w) h = tt
 
-module _ (field : Bool) (s : List ℕ) (from : ℕ) (t : Token) (e : ℕ) (x : Text) where
+module _ (origin : Source) (s : List ℕ) (from : ℕ) (t : Token) (e : ℕ) (x : Text) where
   -- a token that is not quoted, at `at`, where b stands
-  plain-within : (at b : ℕ) (layout : Bool) → Each (λ k v e. Within v) (plain field s at layout b)
+  plain-within : (at b : ℕ) (layout : Bool) → Each (λ k v e. Within v) (plainToken origin s at layout b)
   plain-within at b =
       plain-each (λ k v e. Within v) s at b
       (record {
@@ -45,10 +46,10 @@ module _ (field : Bool) (s : List ℕ) (from : ℕ) (t : Token) (e : ℕ) (x : T
         float = λ y e. tt;
         integer = λ n e f. let l = ltb-true n beyond f in omega arith;
       })
-      field
+      origin
 
-  pub within-limit : readLexeme field s from ≡ lexeme t e x → (n : ℕ) → t .value ≡ Integer n → n ≤ largestMagnitude
+  pub within-limit : readLexeme origin s from ≡ lexeme t e x → (n : ℕ) → t .value ≡ Integer n → n ≤ largestMagnitude
   within-limit h n f =
       subst Within f
-      (rw h at (read-each field s Reads-within (λ w. tt) (λ at l bs d g. tt) (λ at l bs d g. tt)
-      (λ at b l q layout. read-within at (plain field s at layout b) (plain-within at b layout)) from))
+      (rw h at (read-each origin s Reads-within (λ w. tt) (λ at l bs d g. tt) (λ at l bs d g. tt)
+      (λ at b l q layout. read-within at (plainToken origin s at layout b) (plain-within at b layout)) from))

@@ -19,6 +19,7 @@ pub mod Returns
 pub mod Runs
 pub mod Scans
 pub mod Sets
+pub mod Sources
 pub mod Spans
 pub mod Specimens
 pub mod Spellings

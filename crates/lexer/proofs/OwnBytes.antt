@@ -11,12 +11,13 @@ use lib.ListN.{take, drop}
 use Rattle.lexer.specs.Chars.{classOf, is, within, smallLetter, decimalDigit, graphicTokenChar, layoutChar, foreignByte, carriageReturn}
 use Rattle.lexer.specs.Cursor.{part}
 use Rattle.lexer.specs.Name.{runEnd, nameToken}
-use Rattle.lexer.specs.Token.{plainToken, plainNumber, plain, source, Lexeme, lexeme, refused, textOf, plainLexeme, readLexeme}
+use Rattle.lexer.specs.Token.{plainToken, source, Lexeme, lexeme, refused, textOf, plainLexeme, readLexeme}
 use Rattle.lexer.specs.declared.cursor.Scan.{Scan}
 use Rattle.lexer.specs.declared.kind.Kind.{Kind}
 use Rattle.lexer.specs.declared.kind.Plain.{Plain}
 use Rattle.lexer.specs.declared.kind.Value.{Value}
 use Rattle.lexer.specs.declared.token.Token.{Token}
+use Rattle.lexer.specs.declared.token.Source.{Source}
 use Rattle.lexer.proofs.Cursors.{both}
 use Rattle.lexer.proofs.EachToken.{Each, Rules, plain-each, read-each}
 use Rattle.lexer.proofs.Looks.{Seen}
@@ -90,14 +91,13 @@ module _ (s : List ℕ) where
   keeps at x l (Plain.Refused w) h = tt
 
   -- no token begins with a carriage return
-  of-byte : (field layout : Bool) (at x : ℕ) (t : Bool) → eqb x carriageReturn ≡ t → Each (Own at x) (plain field s at layout x)
-  unfolding plainToken plainNumber nameToken classOf blank
-  of-byte true layout at x true f = rw (eqb-true x carriageReturn f) tt
-  of-byte false layout at x true f = rw (eqb-true x carriageReturn f) tt
-  of-byte field layout at x false f = plain-each (Own at x) s at x (rules at x (cc)) field layout
+  of-byte : (origin : Source) (layout : Bool) (at x : ℕ) (t : Bool) → eqb x carriageReturn ≡ t → Each (Own at x) (plainToken origin s at layout x)
+  unfolding plainToken nameToken classOf blank
+  of-byte origin layout at x true f = rw (eqb-true x carriageReturn f) tt
+  of-byte origin layout at x false f = plain-each (Own at x) s at x (rules at x (cc)) origin layout
 
   -- a token that was read
-  pub own-bytes : (field : Bool) (from : ℕ) (t : Token) (e : ℕ) → readLexeme field s from ≡ lexeme t e source → part (t .start) e (blanked s) ≡ part (t .start) e s
-  own-bytes field from t e f =
-      rw f at (read-each field s Keeps (λ w. tt) (λ at l bs d h g. cc) (λ at l bs d h g. cc)
-      (λ at x l n layout. keeps at x l (plain field s at layout x) (of-byte field layout at x (eqb x carriageReturn) refl)) from) refl
+  pub own-bytes : (origin : Source) (from : ℕ) (t : Token) (e : ℕ) → readLexeme origin s from ≡ lexeme t e source → part (t .start) e (blanked s) ≡ part (t .start) e s
+  own-bytes origin from t e f =
+      rw f at (read-each origin s Keeps (λ w. tt) (λ at l bs d h g. cc) (λ at l bs d h g. cc)
+      (λ at x l n layout. keeps at x l (plainToken origin s at layout x) (of-byte origin layout at x (eqb x carriageReturn) refl)) from) refl

@@ -16,7 +16,7 @@ use Rattle.lexer.specs.Look.{peek, lookahead}
 use Rattle.lexer.specs.Name.{runStop, runEnd, alphanumerics, graphics, runToken, variableToken, nameToken}
 use Rattle.lexer.specs.Number.{numberToken}
 use Rattle.lexer.specs.Quoted.{Quoted, decode}
-use Rattle.lexer.specs.Token.{mark, barTo, barToken, pointTo, endToken, soloTo, soloToken, floated, valued, numbered, plainToken, plainNumber, plain, Text, Lexeme, lexeme, refused, token, plainLexeme, quotedTo, quotedLexeme, lexemeTo, afterLayout, readLexeme}
+use Rattle.lexer.specs.Token.{mark, barTo, barToken, pointTo, endToken, soloTo, soloToken, floated, valued, numbered, sourced, plainToken, Text, Lexeme, lexeme, refused, token, plainLexeme, quotedTo, quotedLexeme, lexemeTo, afterLayout, readLexeme}
 use Rattle.lexer.specs.declared.chars.Peek.{Peek}
 use Rattle.lexer.specs.declared.chars.Look.{Look}
 use Rattle.lexer.specs.declared.cursor.Scan.{Scan}
@@ -29,11 +29,13 @@ use Rattle.lexer.specs.declared.number.Numeral.{Numeral}
 use Rattle.lexer.specs.declared.number.NumberToken.{NumberToken}
 use Rattle.lexer.specs.declared.token.Mark.{Mark}
 use Rattle.lexer.specs.declared.token.Token.{Token}
+use Rattle.lexer.specs.declared.token.Source.{Source}
 use Rattle.lexer.proofs.Cursors.{NoNewline, both, plain-one, plain-both}
 use Rattle.lexer.proofs.Layouts.{Before, layout-ends}
 use Rattle.lexer.proofs.Looks.{Seen, inside-or-not, peek-byte, look-byte}
 use Rattle.lexer.proofs.Numbers.{EndsOf, number-ends}
 use Rattle.lexer.proofs.QuotedItems.{decode-ends}
+use Rattle.lexer.proofs.Sources.{sourced-ends}
 use Rattle.lexer.proofs.Spans.{by-test, not-newline, Span, Plain as OneLine, plain-char, plain-on, plain-step}
 use Rattle.lexer.proofs.Steps.{drop-at, drop-end}
 
@@ -181,30 +183,27 @@ module _ (s : List ℕ) where
     valued-ends e (Numeral.Integer n) p = by-test (PlainEnds s at) (ltb n beyond) _ _ (λ _. p) (λ _. tt)
     valued-ends e (Numeral.Float m sign y f) p = floated-ends e (floatValue m sign y f) p
 
-    numbered-ends : (field : Bool) (t : NumberToken) → EndsOf s at t → PlainEnds s at (numbered field at t)
+    numbered-ends : (t : NumberToken) → EndsOf s at t → PlainEnds s at (numbered at t)
     unfolding numbered
-    numbered-ends field (NumberToken.Whole n e) p = valued-ends e n (one-line s at e (p .plain))
-    numbered-ends field (NumberToken.Partial n e) p =
-        by-test (PlainEnds s at) field _ _ (λ _. valued-ends e n (one-line s at e (p .ends .plain))) (λ _. tt)
-    numbered-ends field (NumberToken.Refused w) p = tt
+    numbered-ends (NumberToken.Whole n e) p = valued-ends e n (one-line s at e (p .plain))
+    numbered-ends (NumberToken.Partial n e) p = tt
+    numbered-ends (NumberToken.Refused w) p = tt
 
-    digit-ends : (field : Bool) → is decimalDigit x ≡ true → PlainEnds s at (numbered field at (numberToken s at))
-    digit-ends field t = numbered-ends field (numberToken s at) (number-ends s at x l (class-digit x (eqb-true (classOf x) decimalDigit t)))
+    digit-ends : (origin : Source) → is decimalDigit x ≡ true → PlainEnds s at (numbered at (sourced origin (numberToken s at)))
+    digit-ends origin t = numbered-ends _ (sourced-ends s at origin (numberToken s at) (number-ends s at x l (class-digit x (eqb-true (classOf x) decimalDigit t))))
 
     -- a token that is not quoted
-    plain-ends : (field layout : Bool) → PlainEnds s at (plain field s at layout x)
-    unfolding plainToken plainNumber
-    plain-ends field layout =
-        by-test (PlainEnds s at) field _ _
-        (λ _. by-test (PlainEnds s at) (is decimalDigit x) _ _ (digit-ends true) (λ _. name-ends))
-        (λ _. by-test (PlainEnds s at) (is decimalDigit x) _ _ (digit-ends false)
+    plain-ends : (origin : Source) (layout : Bool) → PlainEnds s at (plainToken origin s at layout x)
+    unfolding plainToken
+    plain-ends origin layout =
+        by-test (PlainEnds s at) (is decimalDigit x) _ _ (digit-ends origin)
         (λ _. by-test (PlainEnds s at) (is soloChar x) _ _ (λ t. solo-ends (of-class soloChar t (λ k. omega arith)) (mark layout x))
         (λ _. by-test (PlainEnds s at) (is capitalLetter x) _ _ (λ t. alphanumeric-ends Kind.Variable (of-class capitalLetter t (λ k. omega arith)))
         (λ _. by-test (PlainEnds s at) (is underscoreChar x) _ _ (λ t. alphanumeric-ends Kind.Variable (of-class underscoreChar t (λ k. omega arith)))
-        (λ _. by-test (PlainEnds s at) (eqb x point) _ _ (λ t. end-ends (eqb-true x point t) (peek s (at + 1)) refl) (λ _. name-ends))))))
+        (λ _. by-test (PlainEnds s at) (eqb x point) _ _ (λ t. end-ends (eqb-true x point t) (peek s (at + 1)) refl) (λ _. name-ends)))))
 
-    pub plain-token-ends : (field layout : Bool) (p : Plain) (k : Kind) (v : Value) (e : ℕ) → p ≡ plain field s at layout x → p ≡ Plain.Whole k v e → Ending s at e
-    plain-token-ends field layout p k v e f g = rw (sym f ∙ g) at (plain-ends field layout)
+    pub plain-token-ends : (origin : Source) (layout : Bool) (p : Plain) (k : Kind) (v : Value) (e : ℕ) → p ≡ plainToken origin s at layout x → p ≡ Plain.Whole k v e → Ending s at e
+    plain-token-ends origin layout p k v e f g = rw (sym f ∙ g) at (plain-ends origin layout)
 
 -- ---- any token
 pub record LexemeEnds (s : List ℕ) (from : ℕ) (t : Token) (e : ℕ) : Type 0 where
@@ -229,25 +228,24 @@ module _ (s : List ℕ) (from at : ℕ) (h : from ≤ at) where
       record { behind = h; ahead = omega (arith, p .ahead); inside = p .inside }
   of-quoted k q (Quoted.refused w) f = tt
 
-  of-look : (field layout : Bool) (r : Look) → lookahead s at ≡ r → Ends s from (lexemeTo field s at layout r)
+  of-look : (origin : Source) (layout : Bool) (r : Look) → lookahead s at ≡ r → Ends s from (lexemeTo origin s at layout r)
   unfolding lexemeTo quotedLexeme
-  of-look field layout (Look.Refused w) e = tt
-  of-look field layout (Look.Byte x) e =
+  of-look origin layout (Look.Refused w) e = tt
+  of-look origin layout (Look.Byte x) e =
       by-test (Ends s from) (is quoteChar x) _ _
       (λ _. by-test (Ends s from) (eqb x singleQuote) _ _ (λ _. of-quoted Kind.Name singleQuote _ refl)
-      (λ _. by-test (Ends s from) field _ _ (λ _. tt)
-      (λ _. by-test (Ends s from) (eqb x doubleQuote) _ _ (λ _. of-quoted Kind.String doubleQuote _ refl) (λ _. tt))))
-      (λ _. of-plain (plain field s at layout x) (plain-ends s at x (look-byte s at x e) field layout))
+      (λ _. by-test (Ends s from) (eqb x doubleQuote) _ _ (λ _. of-quoted Kind.String doubleQuote _ refl) (λ _. tt)))
+      (λ _. of-plain (plainToken origin s at layout x) (plain-ends s at x (look-byte s at x e) origin layout))
 
 -- a token at an offset
-pub token-there : (field layout : Bool) (s : List ℕ) (at : ℕ) (t : Token) (e : ℕ) (x : Text) → lexemeTo field s at layout (lookahead s at) ≡ lexeme t e x → LexemeEnds s at t e
-token-there field layout s at t e x f = rw f at (of-look s at at (omega arith) field layout (lookahead s at) refl)
+pub token-there : (origin : Source) (layout : Bool) (s : List ℕ) (at : ℕ) (t : Token) (e : ℕ) (x : Text) → lexemeTo origin s at layout (lookahead s at) ≡ lexeme t e x → LexemeEnds s at t e
+token-there origin layout s at t e x f = rw f at (of-look s at at (omega arith) origin layout (lookahead s at) refl)
 
-of-layout : (field : Bool) (s : List ℕ) (from : ℕ) (r : Scan) → Before from (length s) r → Ends s from (afterLayout field s from r)
+of-layout : (origin : Source) (s : List ℕ) (from : ℕ) (r : Scan) → Before from (length s) r → Ends s from (afterLayout origin s from r)
 unfolding afterLayout
-of-layout field s from (Refused w) b = tt
-of-layout field s from (Stop at) b = of-look s from at (b .0) field (ltb from at) (lookahead s at) refl
+of-layout origin s from (Refused w) b = tt
+of-layout origin s from (Stop at) b = of-look s from at (b .0) origin (ltb from at) (lookahead s at) refl
 
 -- an accepted token starts at or after the cursor, ends after it starts, within the text
-pub lexeme-ends : (field : Bool) (s : List ℕ) (from : ℕ) (t : Token) (e : ℕ) (x : Text) → from ≤ length s → readLexeme field s from ≡ lexeme t e x → LexemeEnds s from t e
-lexeme-ends field s from t e x h f = rw f at (of-layout field s from (layoutEnd s from) (layout-ends s from))
+pub lexeme-ends : (origin : Source) (s : List ℕ) (from : ℕ) (t : Token) (e : ℕ) (x : Text) → from ≤ length s → readLexeme origin s from ≡ lexeme t e x → LexemeEnds s from t e
+lexeme-ends origin s from t e x h f = rw f at (of-layout origin s from (layoutEnd s from) (layout-ends s from))

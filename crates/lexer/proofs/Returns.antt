@@ -19,7 +19,7 @@ use Rattle.lexer.specs.Number.{radixClosed, radixTo, radixConstant, char
 use Rattle.lexer.specs.Number as Number
 use Rattle.lexer.specs.Quoted.{escapeOf, closed, numericEscape, escapeTo, escape, quoteTo, itemTo, quotedItem, Quoted, withChar, outOfLimit, itemTurn, quotedTurn, unended, decode}
 use Rattle.lexer.specs.Refusal.{fault}
-use Rattle.lexer.specs.Token.{mark, barTo, pointTo, endToken, soloTo, numbered, plainToken, plainNumber, plain, Lexeme, lexeme, refused, plainLexeme, quotedTo, quotedLexeme, lexemeTo, afterLayout, readLexeme, answered, call}
+use Rattle.lexer.specs.Token.{mark, barTo, pointTo, endToken, soloTo, numbered, sourced, plainToken, Lexeme, lexeme, refused, plainLexeme, quotedTo, quotedLexeme, lexemeTo, afterLayout, readLexeme, answered, nextToken}
 use Rattle.lexer.specs.declared.refusal.Fault.{Fault}
 use Rattle.lexer.specs.declared.refusal.Refusal.the-variants.{BadQuoted}
 use Rattle.lexer.specs.declared.chars.Peek.{Peek}
@@ -35,6 +35,8 @@ use Rattle.lexer.specs.declared.number.NumberToken.{NumberToken}
 use Rattle.lexer.specs.declared.quoted.Item.{Item}
 use Rattle.lexer.specs.declared.token.Answer.{Answer}
 use Rattle.lexer.specs.declared.token.Mark.{Mark}
+use Rattle.lexer.specs.declared.token.Source.{Source}
+use Rattle.lexer.specs.declared.token.Source.the-variants.{File, Field}
 use Rattle.lexer.proofs.Looks.{Strange}
 use Rattle.lexer.proofs.Spans.{by-test}
 
@@ -333,36 +335,39 @@ module _ (s : List ℕ) where
     solo-same x (Mark.Is k) = refl
     solo-same x Mark.Other = rw (alike (barTo at) refl (look-stays (at + 1)), name-same x)
 
-    plain-same : (field layout : Bool) (x : ℕ) → Unless Plain.Refused (plain field s′ at layout x) (plain field s at layout x)
-    unfolding plainToken plainNumber numbered
-    plain-same field layout x =
-        either field (either (is decimalDigit x) (through (numbered true at) number-same) (since (name-same x)))
-        (either (is decimalDigit x) (through (numbered false at) number-same)
-        (since (rw (solo-same x (mark layout x), run-at smallLetter decimalDigit (at + 1), end-same, name-same x))))
+    sourced-same : (origin : Source) {a b : NumberToken} → Unless NumberToken.Refused a b → Unless NumberToken.Refused (sourced origin a) (sourced origin b)
+    sourced-same File p = p
+    sourced-same Field p = through (sourced Field) p
 
-    token-same : (field layout : Bool) → Unless refused (lexemeTo field s′ at layout (lookahead s′ at)) (lexemeTo field s at layout (lookahead s at))
-    unfolding lexemeTo quotedLexeme quotedTo plainLexeme plainToken plainNumber nameToken classOf
-    token-same field layout =
-        by-look (Unless refused) (λ z. lexemeTo field z at layout) (λ w. same)
+    plain-same : (origin : Source) (layout : Bool) (x : ℕ) → Unless Plain.Refused (plainToken origin s′ at layout x) (plainToken origin s at layout x)
+    unfolding plainToken numbered
+    plain-same origin layout x =
+        either (is decimalDigit x) (through (numbered at) (sourced-same origin number-same))
+        (since (rw (solo-same x (mark layout x), run-at smallLetter decimalDigit (at + 1), end-same, name-same x)))
+
+    token-same : (origin : Source) (layout : Bool) → Unless refused (lexemeTo origin s′ at layout (lookahead s′ at)) (lexemeTo origin s at layout (lookahead s at))
+    unfolding lexemeTo quotedLexeme quotedTo plainLexeme plainToken nameToken classOf
+    token-same origin layout =
+        by-look (Unless refused) (λ z. lexemeTo origin z at layout) (λ w. same)
         (λ x. either (is quoteChar x)
         (either (eqb x singleQuote) (through (quotedTo Name at) (decode-same singleQuote at refl (at + 1)))
-        (either field same (either (eqb x doubleQuote) (through (quotedTo String at) (decode-same doubleQuote at refl (at + 1))) same)))
-        (through (plainLexeme at) (plain-same field layout x))) same at
+        (either (eqb x doubleQuote) (through (quotedTo String at) (decode-same doubleQuote at refl (at + 1))) same))
+        (through (plainLexeme at) (plain-same origin layout x))) same at
 
   -- ---- a cursor that is moved on
   pub move-same : (c : Cursor) (e : ℕ) → moveTo (blanked s) c e ≡ moveTo s c e
   unfolding moveTo
   move-same c e = rw (drop-same (c .offset) s) (walk-same (e - c .offset) (drop (c .offset) s) c)
 
-  -- ---- what is read from an offset on, and what the calls answer
-  module _ (field : Bool) where
-    after-layout : (from : ℕ) (r : Scan) → Unless refused (afterLayout field s′ from r) (afterLayout field s from r)
+  -- ---- what is read from an offset on, and what the call answers
+  module _ (origin : Source) where
+    after-layout : (from : ℕ) (r : Scan) → Unless refused (afterLayout origin s′ from r) (afterLayout origin s from r)
     unfolding afterLayout
     after-layout from (Scan.Refused w) = same
-    after-layout from (Scan.Stop at) = token-same at field (ltb from at)
+    after-layout from (Scan.Stop at) = token-same at origin (ltb from at)
 
     -- what is read
-    pub lexeme-same : (from : ℕ) → Unless refused (readLexeme field s′ from) (readLexeme field s from)
+    pub lexeme-same : (from : ℕ) → Unless refused (readLexeme origin s′ from) (readLexeme origin s from)
     lexeme-same from = rw (layout-same from) (after-layout from (layoutEnd s from))
 
     module _ (c : Cursor) where
@@ -373,6 +378,6 @@ module _ (s : List ℕ) where
       answer-same (same {a = lexeme t e x}) = since (rw (move-same c e))
 
       -- what is answered
-      pub answer-alike : (call field (blanked s) c ≡ call field s c) ⊎ ((o : ℕ) × (call field s c ≡ Answer.Refused (fault BadQuoted o) c))
+      pub answer-alike : (nextToken origin (blanked s) c ≡ nextToken origin s c) ⊎ ((o : ℕ) × (nextToken origin s c ≡ Answer.Refused (fault BadQuoted o) c))
       answer-alike =
           or-four {refuse = λ w. Answer.Refused w c} (rw (length-map s blank) (either (valid (length s) c) (answer-same (lexeme-same (c .offset))) same))

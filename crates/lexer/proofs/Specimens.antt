@@ -28,6 +28,7 @@ use Rattle.lexer.specs.declared.kind.Kind.{Kind}
 use Rattle.lexer.specs.declared.kind.Value.{Value}
 use Rattle.lexer.specs.declared.kind.Value.the-variants.{Integer, Float, Nothing}
 use Rattle.lexer.specs.declared.token.Answer.{Answer}
+use Rattle.lexer.specs.declared.token.Source.the-variants.{File}
 
 -- the bytes of a text
 abbrev bytes : String → List ℕ
@@ -40,7 +41,7 @@ at n = record { offset = n; line = 0; column = n }
 
 -- the token call on a text, at an offset
 abbrev from : ℕ → String → Answer
-from n s = nextToken (bytes s) (at n)
+from n s = nextToken File (bytes s) (at n)
 
 -- a token from one offset to another, or a refusal and its offset at the start of the text
 abbrev read : ℕ → ℕ → Kind → Value → Answer

@@ -1,17 +1,18 @@
 -- How a name is spelt: quoted exactly if a single quote begins it. A law of the definitions alone, for the crates above. Assumes nothing.
 use mathlib.Core.Path.{_≡_, sym, _∙_, subst⁻¹}
-use mathlib.Core.Bool.{Bool, false}
+use mathlib.Core.Bool.{false}
 use mathlib.Core.List.{List}
 use Prim.Native.Nat.{ℕ}
 use native.Mathlib.Omega.{arith}
 use lib.ListN.{getD}
 use Rattle.lexer.specs.Chars.{classOf, is, quoteChar, singleQuote}
-use Rattle.lexer.specs.Token.{plain, Text, source, decoded, Lexeme, lexeme, refused, textOf, plainLexeme, readLexeme}
+use Rattle.lexer.specs.Token.{plainToken, Text, source, decoded, Lexeme, lexeme, refused, textOf, plainLexeme, readLexeme}
 use Rattle.lexer.specs.declared.kind.Kind.{Kind}
 use Rattle.lexer.specs.declared.kind.Kind.the-variants.{Name}
 use Rattle.lexer.specs.declared.kind.Plain.{Plain}
 use Rattle.lexer.specs.declared.kind.Plain.the-variants.{Whole, Refused}
 use Rattle.lexer.specs.declared.token.Token.{Token}
+use Rattle.lexer.specs.declared.token.Source.{Source}
 use Rattle.lexer.proofs.EachToken.{read-each}
 use Rattle.lexer.proofs.Looks.{Seen}
 
@@ -34,7 +35,7 @@ module _ (s : List ℕ) where
   plain-spelt at x l n (Whole k v e) = λ g. subst⁻¹ (λ (j : Kind). NameText (getD s at 0) (textOf j)) g (unquoted (λ q. n (sym (l .it) ∙ q)))
   plain-spelt at x l n (Refused w) = tt
 
-  pub name-text : (field : Bool) (from : ℕ) (t : Token) (e : ℕ) (x : Text) → readLexeme field s from ≡ lexeme t e x → t .kind ≡ Name → NameText (getD s (t .start) 0) x
-  name-text field from t e x f =
-      rw f at (read-each field s (Spelt s) (λ w. tt) (λ at l bs d h g. quoted bs (l .it)) (λ at l bs d h g. let z : _≡_ {A = ℕ} 0 1 = cc in absurd (omega arith))
-      (λ at y l n layout. plain-spelt at y l (not-quote y n) (plain field s at layout y)) from)
+  pub name-text : (origin : Source) (from : ℕ) (t : Token) (e : ℕ) (x : Text) → readLexeme origin s from ≡ lexeme t e x → t .kind ≡ Name → NameText (getD s (t .start) 0) x
+  name-text origin from t e x f =
+      rw f at (read-each origin s (Spelt s) (λ w. tt) (λ at l bs d h g. quoted bs (l .it)) (λ at l bs d h g. let z : _≡_ {A = ℕ} 0 1 = cc in absurd (omega arith))
+      (λ at y l n layout. plain-spelt at y l (not-quote y n) (plainToken origin s at layout y)) from)

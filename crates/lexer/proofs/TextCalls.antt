@@ -22,6 +22,7 @@ use Rattle.lexer.specs.declared.token.Token.{Token}
 use Rattle.lexer.specs.declared.token.Answer.{Answer}
 use Rattle.lexer.specs.declared.text.Part.{Part}
 use Rattle.lexer.specs.declared.text.TextAnswer.the-variants.{Read, Refused}
+use Rattle.lexer.specs.declared.token.Source.the-variants.{File}
 use Rattle.lexer.proofs.Cursors.{is-valid}
 use Rattle.lexer.proofs.Looks.{byte-look}
 use Rattle.lexer.proofs.Promises.{lexeme-ends}
@@ -51,8 +52,8 @@ OnlyPart d x (Part.Scratch a e) = (length x ≡ length d) × ((a ≡ 0) × (drop
 
 -- the token t at the cursor c, with the cursor behind it, and its text
 pub record Told (s : List ℕ) (c : Cursor) (d : List ℕ) (t : Token) (next : Cursor) (p : Part) (x : List ℕ) : Type 0 where
-  pub token : nextToken s c ≡ Answer.Read t next
-  pub text : Shows s x p (readLexeme false s (c .offset))
+  pub token : nextToken File s c ≡ Answer.Read t next
+  pub text : Shows s x p (readLexeme File s (c .offset))
   pub kept : OnlyPart d x p
 
 -- ---- a part of the text, and bytes that were written
@@ -99,7 +100,7 @@ module _ (s : List ℕ) (c : Cursor) (d : List ℕ) where
       let y : sets d 0 bs ≡ x = cc in
       record { token = cc; text = λ a b _ g. rw (sym q) (written-part d bs r a b (g ∙ sym y)); kept = rw (sym q, sym y) (written-only d bs r) }
 
-  tells : (b : Bool) (l : Lexeme) → valid (length s) c ≡ b → readLexeme false s (c .offset) ≡ l → (t : Token) (next : Cursor) (p : Part) (x : List ℕ) → called b l ≡ leaves (Read t next p) x → Tells b l t next p x
+  tells : (b : Bool) (l : Lexeme) → valid (length s) c ≡ b → readLexeme File s (c .offset) ≡ l → (t : Token) (next : Cursor) (p : Part) (x : List ℕ) → called b l ≡ leaves (Read t next p) x → Tells b l t next p x
   unfolding called textTold answered shown
   tells false l f g t next p x h = let z : _≡_ {A = ℕ} 0 1 = cc in absurd (omega arith)
   tells true (refused w) f g t next p x h = let z : _≡_ {A = ℕ} 0 1 = cc in absurd (omega arith)
@@ -108,13 +109,13 @@ module _ (s : List ℕ) (c : Cursor) (d : List ℕ) where
   tells true (lexeme u e source) f g t next p x h =
       let q : Part.Source (u .start) e ≡ p = cc in
       let y : d ≡ x = cc in
-      let b = lexeme-ends false s (c .offset) u e source (is-valid (length s) c f .offset) g in
+      let b = lexeme-ends File s (c .offset) u e source (is-valid (length s) c f .offset) g in
       record { token = cc; text = λ a _ g _. rw (sym q) (source-part a s (u .start) e (omega (arith, b .ahead)) (b .inside) g); kept = rw (sym q) (sym y) }
 
   pub text-told : (t : Token) (next : Cursor) (p : Part) (x : List ℕ) → nextTokenText s c d ≡ leaves (Read t next p) x → Told s c d t next p x
   unfolding called
   text-told t next p x h =
-      let r = tells (valid (length s) c) (readLexeme false s (c .offset)) refl refl t next p x h in
+      let r = tells (valid (length s) c) (readLexeme File s (c .offset)) refl refl t next p x h in
       record { token = r .token; text = r .text; kept = r .kept }
 
   -- ---- a refusal leaves cursor and scratch as they were
@@ -132,7 +133,7 @@ module _ (s : List ℕ) (c : Cursor) (d : List ℕ) where
 
   pub nothing-left : (w : Fault) (e : Cursor) (x : List ℕ) → nextTokenText s c d ≡ leaves (Refused w e) x → (e ≡ c) × (x ≡ d)
   unfolding called
-  nothing-left w e x h = left w e x (valid (length s) c) (readLexeme false s (c .offset)) h
+  nothing-left w e x h = left w e x (valid (length s) c) (readLexeme File s (c .offset)) h
 
 -- ---- the quoted-text call
 module _ (s : List ℕ) (at : ℕ) (short : length s ≤ longest) (inside : at < length s) (quote : getD s at 0 ≡ singleQuote) where

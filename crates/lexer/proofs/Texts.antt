@@ -1,6 +1,5 @@
 -- What the text call knows of a token that was read. Assumes nothing.
 use mathlib.Core.Path.{_≡_, refl, sym, _∙_, ap}
-use mathlib.Core.Bool.{Bool, false}
 use mathlib.Core.List.{List}
 use Prim.Native.Nat.{ℕ, _+_, _<_}
 use native.Mathlib.Omega.{arith}
@@ -9,7 +8,7 @@ use Rattle.lexer.specs.Chars.{singleQuote, doubleQuote}
 use Rattle.lexer.specs.Cursor.{startCursor, moveTo}
 use Rattle.lexer.specs.Quoted.{Quoted, decode}
 use Rattle.lexer.specs.Text.{Reads}
-use Rattle.lexer.specs.Token.{plain, Text, source, decoded, none, Lexeme, lexeme, refused, token, textOf, plainLexeme, readLexeme, kept, spelledTo, found}
+use Rattle.lexer.specs.Token.{plainToken, Text, source, decoded, none, Lexeme, lexeme, refused, token, textOf, plainLexeme, readLexeme, kept, spelledTo, found}
 use Rattle.lexer.specs.declared.cursor.Cursor.{Cursor}
 use Rattle.lexer.specs.declared.kind.Kind.{Kind}
 use Rattle.lexer.specs.declared.kind.Kind.the-variants.{Name, Variable, String, Number, Open, OpenCT, Close, OpenList, CloseList, OpenCurly, CloseCurly, HeadTailSeparator, DoubleBar, Comma, End}
@@ -18,6 +17,8 @@ use Rattle.lexer.specs.declared.kind.Plain.the-variants.{Whole, Refused}
 use Rattle.lexer.specs.declared.token.Token.{Token}
 use Rattle.lexer.specs.declared.token.Spelling.{Spelling}
 use Rattle.lexer.specs.declared.token.Found.{Found}
+use Rattle.lexer.specs.declared.token.Source.{Source}
+use Rattle.lexer.specs.declared.token.Source.the-variants.{File}
 use Rattle.lexer.proofs.Cursors.{move-offset}
 use Rattle.lexer.proofs.EachToken.{Quotes, read-each}
 use Rattle.lexer.proofs.Promises.{lexeme-ends}
@@ -63,10 +64,10 @@ module _ (s : List ℕ) where
   decodes-quote : (k : Kind) (q : ℕ) → Quotes s (Decodes s) k q
   decodes-quote k q at l bs e f = record { inside = l .inside; reads = rw (l .it) f }
 
-  pub decoded-at : (field : Bool) (from : ℕ) (t : Token) (e : ℕ) (bs : List ℕ) → readLexeme field s from ≡ lexeme t e (decoded bs) → QuotedAt s (t .start) e bs
-  decoded-at field from t e bs f =
-      rw f at (read-each field s (Decodes s) (λ w. tt) (decodes-quote Name singleQuote) (decodes-quote String doubleQuote)
-      (λ at x l n layout. plain-decodes at (plain field s at layout x)) from)
+  pub decoded-at : (origin : Source) (from : ℕ) (t : Token) (e : ℕ) (bs : List ℕ) → readLexeme origin s from ≡ lexeme t e (decoded bs) → QuotedAt s (t .start) e bs
+  decoded-at origin from t e bs f =
+      rw f at (read-each origin s (Decodes s) (λ w. tt) (decodes-quote Name singleQuote) (decodes-quote String doubleQuote)
+      (λ at x l n layout. plain-decodes at (plainToken origin s at layout x)) from)
 
 -- ---- what is kept of a token that was read
 
@@ -96,7 +97,7 @@ behind (Found.Refused w) = startCursor
 pub record Kept (s : List ℕ) (c : Cursor) (t : Token) (spelling : Spelling) (next : Cursor) : Type 0 where
   pub end : ℕ
   pub text : Text
-  pub reads : readLexeme false s (c .offset) ≡ lexeme t end text
+  pub reads : readLexeme File s (c .offset) ≡ lexeme t end text
   pub spelt : Spelt text spelling
   pub moved : next ≡ moveTo s c end
 
@@ -104,7 +105,7 @@ pub record Kept (s : List ℕ) (c : Cursor) (t : Token) (spelling : Spelling) (n
 pub record Decoded (s : List ℕ) (c : Cursor) (t : Token) (n : ℕ) (next : Cursor) : Type 0 where
   pub end : ℕ
   pub bytes : List ℕ
-  pub reads : readLexeme false s (c .offset) ≡ lexeme t end (decoded bytes)
+  pub reads : readLexeme File s (c .offset) ≡ lexeme t end (decoded bytes)
   pub count : length bytes ≡ n
   pub moved : next ≡ moveTo s c end
   pub quoted : QuotedAt s (t .start) end bytes
@@ -112,9 +113,9 @@ pub record Decoded (s : List ℕ) (c : Cursor) (t : Token) (n : ℕ) (next : Cur
 module _ (s : List ℕ) (c : Cursor) (t : Token) (next : Cursor) where
   pub kept-of : (x : Spelling) → Reads s c t x next → Kept s c t x next
   unfolding found
-  kept-of x r = go (readLexeme false s (c .offset)) refl (r .read)
+  kept-of x r = go (readLexeme File s (c .offset)) refl (r .read)
     where
-      go : (l : Lexeme) → readLexeme false s (c .offset) ≡ l → found s c l ≡ spelledTo t x next → Kept s c t x next
+      go : (l : Lexeme) → readLexeme File s (c .offset) ≡ l → found s c l ≡ spelledTo t x next → Kept s c t x next
       go (lexeme u e y) g h = let k : kept y ≡ x = cc in record { end = e; text = y; reads = cc; spelt = rw k at (spelt-kept y); moved = ap behind (sym h) }
       go (refused w) g h = let z : _≡_ {A = ℕ} 0 1 = cc in absurd (omega arith)
 
@@ -125,10 +126,10 @@ module _ (s : List ℕ) (c : Cursor) (t : Token) (next : Cursor) where
 
     ends : next .offset ≡ it .end
     ends =
-        let b = lexeme-ends false s (c .offset) t (it .end) (it .text) (r .valid .offset) (it .reads) in
+        let b = lexeme-ends File s (c .offset) t (it .end) (it .text) (r .valid .offset) (it .reads) in
         ap (λ (d : Cursor). d .offset) (it .moved) ∙ move-offset s c (it .end) (omega arith) (b .inside)
 
-    pub source-read : readLexeme false s (c .offset) ≡ lexeme t (next .offset) source
+    pub source-read : readLexeme File s (c .offset) ≡ lexeme t (next .offset) source
     source-read = cc (it .reads, it .spelt, ends)
 
     pub source-moved : next ≡ moveTo s c (next .offset)
@@ -137,12 +138,12 @@ module _ (s : List ℕ) (c : Cursor) (t : Token) (next : Cursor) where
   pub decoded-read : (n : ℕ) → Reads s c t (Spelling.Decoded n) next → Decoded s c t n next
   decoded-read n r =
       let k = kept-of (Spelling.Decoded n) r in
-      let f : readLexeme false s (c .offset) ≡ lexeme t (k .end) (decoded (k .spelt .bytes)) = k .reads ∙ ap (lexeme t (k .end)) (k .spelt .it) in
+      let f : readLexeme File s (c .offset) ≡ lexeme t (k .end) (decoded (k .spelt .bytes)) = k .reads ∙ ap (lexeme t (k .end)) (k .spelt .it) in
       record {
         end = k .end;
         bytes = k .spelt .bytes;
         reads = f;
         count = k .spelt .count;
         moved = k .moved;
-        quoted = decoded-at s false (c .offset) t (k .end) (k .spelt .bytes) f;
+        quoted = decoded-at s File (c .offset) t (k .end) (k .spelt .bytes) f;
       }

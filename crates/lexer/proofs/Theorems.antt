@@ -2,27 +2,28 @@
 -- as its definition in `specs/` does; this page says what the definitions come to. Assumes nothing.
 use mathlib.Core.Path.{_≡_, sym, _∙_, ap}
 use mathlib.Core.Logic.{_⊎_}
-use mathlib.Core.Bool.{Bool, true, false}
+use mathlib.Core.Bool.{Bool, true, false, true≢false}
 use mathlib.Core.List.{List, [], _∷_, map}
 use Prim.Native.Nat.{ℕ, _+_, _-_, _<_, _≤_}
 use lib.Dec.{eqb}
 use lib.Ieee.{Float}
 use lib.ListN.{length, getD}
 use denote.Ref.{RefT, ptr, now}
-use Rattle.lexer.specs.Chars.{is, foreignByte, carriageReturn, singleQuote, comma}
+use Rattle.lexer.specs.Chars.{is, decimalDigit, foreignByte, carriageReturn, singleQuote, comma}
 use Rattle.lexer.specs.Cursor.{longest, startCursor, walk, part, moveTo, valid, Valid}
 use Rattle.lexer.specs.Digits.{largestMagnitude}
 use Rattle.lexer.specs.Float.{Limits, Scale, scale, over, under, floatValue}
 use Rattle.lexer.specs.Layout.{commentText}
 use Rattle.lexer.specs.Look.{peek, lookahead}
 use Rattle.lexer.specs.Nearest.{Nearest}
+use Rattle.lexer.specs.Number.{numberToken}
 use Rattle.lexer.specs.Quoted.{escape, quotedItem, Quoted, decode}
 use Rattle.lexer.specs.Refusal.{numberOf, fault}
 use Rattle.lexer.specs.Text.{leaves, nextTokenText, seen, shown, counts, countedText, quotedText}
-use Rattle.lexer.specs.Token.{Text, source, decoded, lexeme, refused, isComma, endToken, readLexeme, call, nextToken, nextNumberToken}
+use Rattle.lexer.specs.Token.{endToken, valued, numbered, Text, source, decoded, lexeme, refused, isComma, plainLexeme, readLexeme, answered, nextToken}
 use Rattle.lexer.specs.declared.refusal.Fault.{Fault}
 use Rattle.lexer.specs.declared.refusal.Refusal.{Refusal}
-use Rattle.lexer.specs.declared.refusal.Refusal.the-variants.{UnclosedComment, BadQuoted, ForeignByte}
+use Rattle.lexer.specs.declared.refusal.Refusal.the-variants.{EndOfText, UnclosedComment, BadQuoted, ForeignByte}
 use Rattle.lexer.specs.declared.chars.Look.{Look}
 use Rattle.lexer.specs.declared.chars.Peek.{Peek}
 use Rattle.lexer.specs.declared.cursor.Cursor.{Cursor}
@@ -31,12 +32,16 @@ use Rattle.lexer.specs.declared.float.Floated.{Floated}
 use Rattle.lexer.specs.declared.kind.Kind.the-variants.{Name, End}
 use Rattle.lexer.specs.declared.kind.Plain.{Plain}
 use Rattle.lexer.specs.declared.kind.Value.the-variants.{Integer, Nothing}
+use Rattle.lexer.specs.declared.number.Numeral.{Numeral}
+use Rattle.lexer.specs.declared.number.NumberToken.{NumberToken}
 use Rattle.lexer.specs.declared.quoted.Item.{Item}
 use Rattle.lexer.specs.declared.text.Part.{Part}
 use Rattle.lexer.specs.declared.text.QuotedAnswer.{QuotedAnswer}
 use Rattle.lexer.specs.declared.text.TextAnswer.{TextAnswer}
 use Rattle.lexer.specs.declared.token.Token.{Token}
 use Rattle.lexer.specs.declared.token.Answer.{Answer}
+use Rattle.lexer.specs.declared.token.Source.{Source}
+use Rattle.lexer.specs.declared.token.Source.the-variants.{File, Field}
 use Rattle.lexer.proofs.Calls.{start-passes, Promised, read-promises, refused-here}
 use Rattle.lexer.proofs.Commas.{commas}
 use Rattle.lexer.proofs.Cursors as Cursors
@@ -48,6 +53,8 @@ use Rattle.lexer.proofs.Refusals.{all, numbers, number-once}
 use Rattle.lexer.proofs.OwnBytes.{own-bytes}
 pub use Rattle.lexer.proofs.Returns.{blank, blanked}
 use Rattle.lexer.proofs.Returns.{or-four, lexeme-same, answer-alike, move-same, mark-before, raw-return, escaped-return, no-return}
+pub use Rattle.lexer.proofs.Sources.{stops, StartsWith}
+use Rattle.lexer.proofs.Sources.{starts-once, sources-alike, source-reaches}
 use Rattle.lexer.proofs.Specimens.{table, specimens}
 pub use Rattle.lexer.proofs.Spellings.{NameText, quoted, unquoted}
 use Rattle.lexer.proofs.Spellings.{name-text}
@@ -63,12 +70,9 @@ pub coincide : {A : Type 0} (definition a b : A) → a ≡ definition → b ≡ 
 coincide definition a b p q = p ∙ sym q
 
 module _ (s : List ℕ) (c : Cursor) where
-  -- the token call and the number call
-  pub token-coincides : (a b : Answer) → a ≡ nextToken s c → b ≡ nextToken s c → a ≡ b
-  token-coincides = coincide (nextToken s c)
-
-  pub number-coincides : (a b : Answer) → a ≡ nextNumberToken s c → b ≡ nextNumberToken s c → a ≡ b
-  number-coincides = coincide (nextNumberToken s c)
+  -- the token call, of a file and of a field
+  pub token-coincides : (origin : Source) (a b : Answer) → a ≡ nextToken origin s c → b ≡ nextToken origin s c → a ≡ b
+  token-coincides origin = coincide (nextToken origin s c)
 
   -- the text call: its answer, and what it leaves in the scratch d
   pub text-coincides : (d : List ℕ) (a b : TextAnswer) (x y : List ℕ) → leaves a x ≡ nextTokenText s c d → leaves b y ≡ nextTokenText s c d → (a ≡ b) × (x ≡ y)
@@ -98,56 +102,68 @@ start-valid = start-passes
 module _ (s : List ℕ) (c : Cursor) where
   -- the text is not too long and the cursor is valid; the token starts at or after the cursor and ends behind its start, within the text, where the new
   -- cursor stands, which is valid and further on
-  pub token-promises : (t : Token) (next : Cursor) → nextToken s c ≡ Answer.Read t next → Promised s c t next
-  token-promises = read-promises false s c
-
-  pub number-promises : (t : Token) (next : Cursor) → nextNumberToken s c ≡ Answer.Read t next → Promised s c t next
-  number-promises = read-promises true s c
+  pub token-promises : (origin : Source) (t : Token) (next : Cursor) → nextToken origin s c ≡ Answer.Read t next → Promised s c t next
+  token-promises origin = read-promises origin s c
 
   -- line and column behind a token are those of the bytes walked over from the cursor
-  pub token-walks : (t : Token) (next : Cursor) → nextToken s c ≡ Answer.Read t next → next ≡ walk c (part (c .offset) (next .offset) s)
-  token-walks t next f = token-promises t next f .walked
+  pub token-walks : (origin : Source) (t : Token) (next : Cursor) → nextToken origin s c ≡ Answer.Read t next → next ≡ walk c (part (c .offset) (next .offset) s)
+  token-walks origin t next f = token-promises origin t next f .walked
 
-  pub number-walks : (t : Token) (next : Cursor) → nextNumberToken s c ≡ Answer.Read t next → next ≡ walk c (part (c .offset) (next .offset) s)
-  number-walks t next f = number-promises t next f .walked
-
-  -- the text call reads what the token call reads, the show call hands its text back, and no more of the scratch than that is written
+  -- the text call reads what the token call reads in a file, the show call hands its text back, and no more of the scratch than that is written
   pub text-promises : (d : List ℕ) (t : Token) (next : Cursor) (p : Part) (x : List ℕ) → nextTokenText s c d ≡ leaves (TextAnswer.Read t next p) x → Told s c d t next p x
   text-promises = text-told s c
 
   -- 01: "a refusal returns the caller's cursor"; it leaves the scratch as it was
-  pub token-refused : (w : Fault) (back : Cursor) → nextToken s c ≡ Answer.Refused w back → back ≡ c
-  token-refused = refused-here false s c
-
-  pub number-refused : (w : Fault) (back : Cursor) → nextNumberToken s c ≡ Answer.Refused w back → back ≡ c
-  number-refused = refused-here true s c
+  pub token-refused : (origin : Source) (w : Fault) (back : Cursor) → nextToken origin s c ≡ Answer.Refused w back → back ≡ c
+  token-refused origin = refused-here origin s c
 
   pub text-refused : (d : List ℕ) (w : Fault) (back : Cursor) (x : List ℕ) → nextTokenText s c d ≡ leaves (TextAnswer.Refused w back) x → (back ≡ c) × (x ≡ d)
   text-refused = nothing-left s c
 
+-- ---- 02, request 7: "one call, told whether the text is a file or a field"
+module _ (s : List ℕ) (c : Cursor) where
+  -- where no digit starts, the two sources answer alike
+  pub field-elsewhere : ((at x : ℕ) → StartsWith s c at x → is decimalDigit x ≡ false) → nextToken Field s c ≡ nextToken File s c
+  field-elsewhere h = sources-alike s c (λ at x l d. absurd (true≢false (sym d ∙ h at x l)))
+
+  module _ (at x : ℕ) (l : StartsWith s c at x) where
+    -- where one starts, too, if the number does not reach the end of the text: it is whole, or refused
+    pub field-digit : stops (numberToken s at) ≡ true → nextToken Field s c ≡ nextToken File s c
+    field-digit h = sources-alike s c (λ at′ y k d. rw (starts-once s c at′ y at x k l) h)
+
+    -- if it does, a file is refused there, and a field has the number
+    module _ (d : is decimalDigit x ≡ true) (n : Numeral) (e : ℕ) (f : numberToken s at ≡ NumberToken.Partial n e) (v : valid (length s) c ≡ true) where
+      pub file-ends : nextToken File s c ≡ Answer.Refused (fault EndOfText e) c
+      unfolding numbered plainLexeme answered
+      file-ends = cc (v, source-reaches s c File at x l d n e f)
+
+      pub field-ends : nextToken Field s c ≡ answered s c (plainLexeme at (valued at e n))
+      unfolding numbered
+      field-ends = cc (v, source-reaches s c Field at x l d n e f)
+
 -- ---- what the clause reader relies on, besides `token-promises`
 
--- what was read from an offset on, by the token call or, where `field`, by the number call: the token t, which ends at e
-module _ (field : Bool) (s : List ℕ) (from : ℕ) (t : Token) (e : ℕ) where
+-- what was read from an offset on, in a file or a field: the token t, which ends at e
+module _ (origin : Source) (s : List ℕ) (from : ℕ) (t : Token) (e : ℕ) where
   -- it starts at or after the offset, and ends behind its start, within the text
-  pub lexeme-bounds : (x : Text) → from ≤ length s → readLexeme field s from ≡ lexeme t e x → LexemeEnds s from t e
-  lexeme-bounds = lexeme-ends field s from t e
+  pub lexeme-bounds : (x : Text) → from ≤ length s → readLexeme origin s from ≡ lexeme t e x → LexemeEnds s from t e
+  lexeme-bounds = lexeme-ends origin s from t e
 
   -- it is the Comma exactly if a comma stands where it starts
-  pub comma-starts : (x : Text) → readLexeme field s from ≡ lexeme t e x → isComma (t .kind) ≡ eqb (getD s (t .start) 0) comma
-  comma-starts = commas field s from t e
+  pub comma-starts : (x : Text) → readLexeme origin s from ≡ lexeme t e x → isComma (t .kind) ≡ eqb (getD s (t .start) 0) comma
+  comma-starts = commas origin s from t e
 
   -- 02, request 4: its value, where it is an integer, is at most the magnitude of the lowest integer
-  pub integer-within : (x : Text) → readLexeme field s from ≡ lexeme t e x → (n : ℕ) → t .value ≡ Integer n → n ≤ largestMagnitude
-  integer-within = within-limit field s from t e
+  pub integer-within : (x : Text) → readLexeme origin s from ≡ lexeme t e x → (n : ℕ) → t .value ≡ Integer n → n ≤ largestMagnitude
+  integer-within = within-limit origin s from t e
 
   -- a name is quoted, and its text decoded, exactly if a single quote stands where it starts; the text of another name is its own bytes
-  pub name-spelt : (x : Text) → readLexeme field s from ≡ lexeme t e x → t .kind ≡ Name → NameText (getD s (t .start) 0) x
-  name-spelt = name-text s field from t e
+  pub name-spelt : (x : Text) → readLexeme origin s from ≡ lexeme t e x → t .kind ≡ Name → NameText (getD s (t .start) 0) x
+  name-spelt = name-text s origin from t e
 
   -- a decoded text is what the quoted item behind the token's first byte, its quote, stands for
-  pub decoded-spelt : (bs : List ℕ) → readLexeme field s from ≡ lexeme t e (decoded bs) → decode (getD s (t .start) 0) (t .start) s (t .start + 1) ≡ Quoted.whole bs e
-  decoded-spelt bs f = decoded-at s field from t e bs f .reads
+  pub decoded-spelt : (bs : List ℕ) → readLexeme origin s from ≡ lexeme t e (decoded bs) → decode (getD s (t .start) 0) (t .start) s (t .start + 1) ≡ Quoted.whole bs e
+  decoded-spelt bs f = decoded-at s origin from t e bs f .reads
 
 -- where a single quote stands, the quoted-text call decodes the item behind it
 pub quoted-decoded : (s : List ℕ) (at : ℕ) → length s ≤ longest → at < length s → getD s at 0 ≡ singleQuote → (d : List ℕ) → quotedText s at d ≡ countedText at d (decode singleQuote at s (at + 1))
@@ -187,19 +203,19 @@ module _ (s : List ℕ) (o : ℕ) where
 
 -- ---- 02, request 1: "byte 13 becomes layout"
 
--- read by the token call or, where `field`, by the number call: a carriage return is as a blank, but in a quoted item it is refusal 4
-module _ (field : Bool) (s : List ℕ) where
+-- in a file and in a field a carriage return is as a blank, but in a quoted item it is refusal 4
+module _ (origin : Source) (s : List ℕ) where
   -- with a blank for each carriage return the answer is the same, token, value, span, line and column or refusal, unless it is refusal 4
-  pub returns-are-blanks : (c : Cursor) → (call field (blanked s) c ≡ call field s c) ⊎ ((o : ℕ) × (call field s c ≡ Answer.Refused (fault BadQuoted o) c))
-  returns-are-blanks = answer-alike s field
+  pub returns-are-blanks : (c : Cursor) → (nextToken origin (blanked s) c ≡ nextToken origin s c) ⊎ ((o : ℕ) × (nextToken origin s c ≡ Answer.Refused (fault BadQuoted o) c))
+  returns-are-blanks = answer-alike s origin
 
   -- and so is what is read from an offset on, with its text
-  pub returns-read-alike : (from : ℕ) → (readLexeme field (blanked s) from ≡ readLexeme field s from) ⊎ ((o : ℕ) × (readLexeme field s from ≡ refused (fault BadQuoted o)))
-  returns-read-alike from = or-four (lexeme-same s field from)
+  pub returns-read-alike : (from : ℕ) → (readLexeme origin (blanked s) from ≡ readLexeme origin s from) ⊎ ((o : ℕ) × (readLexeme origin s from ≡ refused (fault BadQuoted o)))
+  returns-read-alike from = or-four (lexeme-same s origin from)
 
   -- a text that is the token's own bytes has no carriage return among them
-  pub return-in-no-name : (from : ℕ) (t : Token) (e : ℕ) → readLexeme field s from ≡ lexeme t e source → part (t .start) e (blanked s) ≡ part (t .start) e s
-  return-in-no-name = own-bytes s field
+  pub return-in-no-name : (from : ℕ) (t : Token) (e : ℕ) → readLexeme origin s from ≡ lexeme t e source → part (t .start) e (blanked s) ≡ part (t .start) e s
+  return-in-no-name = own-bytes s origin
 
 -- a cursor moves over a carriage return as over a blank
 pub returns-move-alike : (s : List ℕ) (c : Cursor) (e : ℕ) → moveTo (blanked s) c e ≡ moveTo s c e
@@ -246,13 +262,10 @@ refusals-in-order = numbers
 pub refusals-apart : (r q : Refusal) → numberOf r ≡ numberOf q → r ≡ q
 refusals-apart = number-once
 
--- its column "offset": where the token call and the number call point, by the refusal
+-- its column "offset": where the token call points, by the refusal
 module _ (s : List ℕ) (c : Cursor) where
-  pub token-faults : (w : Fault) (back : Cursor) → nextToken s c ≡ Answer.Refused w back → Placed s c w
-  token-faults = refusal-placed s c false
-
-  pub number-faults : (w : Fault) (back : Cursor) → nextNumberToken s c ≡ Answer.Refused w back → Placed s c w
-  number-faults = refusal-placed s c true
+  pub token-faults : (origin : Source) (w : Fault) (back : Cursor) → nextToken origin s c ≡ Answer.Refused w back → Placed s c w
+  token-faults = refusal-placed s c
 
   -- that is at most the text's length
   pub fault-inside : (w : Fault) → Placed s c w → w .offset ≤ length s

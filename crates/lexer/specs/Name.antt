@@ -1,6 +1,6 @@
 -- Names and variables that are not quoted: ISO 6.4.2 and 6.4.3. Definitions only.
 use Prim.Native.Nat.{ℕ, _+_}
-use mathlib.Core.Bool.{Bool, true, cond}
+use mathlib.Core.Bool.{cond}
 use mathlib.Core.List.{List, [], _∷_}
 use lib.Dec.{eqb}
 use lib.ListN.{drop}
@@ -66,10 +66,6 @@ nameToken s at x = cond (is smallLetter x) (runToken Name (alphanumerics s (at +
 abbrev pub wordKind : ℕ → Kind
 wordKind x = cond (is smallLetter x) Name Variable
 
--- 01: the number call, `field`, reads no variable
-abbrev pub wordTaken : Bool → ℕ → Bool
-wordTaken field x = cond field (is smallLetter x) true
-
 -- the word at `at`
-abbrev pub wordToken : Bool → List ℕ → ℕ → ℕ → Plain
-wordToken field s at x = cond (wordTaken field x) (runToken (wordKind x) (alphanumerics s (at + 1))) (Plain.Refused (fault NoToken at))
+abbrev pub wordToken : List ℕ → ℕ → ℕ → Plain
+wordToken s at x = runToken (wordKind x) (alphanumerics s (at + 1))

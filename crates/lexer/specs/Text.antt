@@ -1,7 +1,7 @@
 -- The text call and the show call: 01, "Tokens". Definitions only.
 use Prim.Native.Nat.{ℕ, _+_, _<_, _≤_}
 use mathlib.Core.Path.{_≡_}
-use mathlib.Core.Bool.{false, cond, _&&_}
+use mathlib.Core.Bool.{cond, _&&_}
 use mathlib.Core.List.{List, [], _∷_}
 use lib.Dec.{leb}
 use lib.ListN.{length}
@@ -17,6 +17,7 @@ use Rattle.lexer.specs.declared.refusal.Refusal.the-variants.{NoToken, N
 use Rattle.lexer.specs.declared.chars.Look.{Look}
 use Rattle.lexer.specs.declared.cursor.Cursor.{Cursor}
 use Rattle.lexer.specs.declared.token.Token.{Token}
+use Rattle.lexer.specs.declared.token.Source.the-variants.{File}
 use Rattle.lexer.specs.declared.token.Spelling.{Spelling}
 use Rattle.lexer.specs.declared.text.Part.{Part}
 use Rattle.lexer.specs.declared.text.QuotedAnswer.{QuotedAnswer}
@@ -37,9 +38,9 @@ textTold s c d (lexeme t e (decoded bs)) =
 textTold s c d (lexeme t e none) = leaves (Refused (fault NoText (t .start)) c) d
 textTold s c d (refused w) = leaves (Refused w c) d
 
--- the token at the cursor c, as the token call reads it
+-- the token at the cursor c, as the token call reads it in a file
 abbrev pub tokenText : List ℕ → Cursor → List ℕ → Outcome
-tokenText s c d = textTold s c d (readLexeme false s (c .offset))
+tokenText s c d = textTold s c d (readLexeme File s (c .offset))
 
 -- the text call
 abbrev pub nextTokenText : List ℕ → Cursor → List ℕ → Outcome
@@ -89,7 +90,7 @@ shown text scratch (Part.Scratch a e) = fitted text scratch a e
 -- ---- what the private functions ask: a valid cursor c, at which the token t was read, with its spelling and the cursor behind it
 pub record Reads (s : List ℕ) (c : Cursor) (t : Token) (spelling : Spelling) (next : Cursor) : Type 0 where
   pub valid : Valid (length s) c
-  pub read : found s c (readLexeme false s (c .offset)) ≡ spelledTo t spelling next
+  pub read : found s c (readLexeme File s (c .offset)) ≡ spelledTo t spelling next
 
 -- and a byte at an offset of a text that is not too long
 pub record Begins (s : List ℕ) (at : ℕ) : Type 0 where

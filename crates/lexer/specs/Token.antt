@@ -1,4 +1,4 @@
--- Tokens, and the token and number calls: ISO 6.4 and 6.4.8. Definitions only.
+-- Tokens, and the token call: ISO 6.4 and 6.4.8. Definitions only.
 use Prim.Native.Nat.{ℕ, _+_, _-_, _<_, _≤_}
 use mathlib.Core.Path.{_≡_}
 use mathlib.Core.Bool.{Bool, true, false, cond}
@@ -34,6 +34,8 @@ use Rattle.lexer.specs.declared.token.Mark.{Mark}
 use Rattle.lexer.specs.declared.token.Token.{Token}
 use Rattle.lexer.specs.declared.token.Spelling.{Spelling}
 use Rattle.lexer.specs.declared.token.Found.{Found}
+use Rattle.lexer.specs.declared.token.Source.{Source}
+use Rattle.lexer.specs.declared.token.Source.the-variants.{File, Field}
 use Rattle.lexer.specs.declared.token.Answer.{Answer}
 
 -- ---- tokens that are not quoted, at `at`
@@ -94,28 +96,28 @@ unfoldable pub valued : ℕ → ℕ → Numeral → Plain
 valued at e (Numeral.Integer n) = cond (ltb n beyond) (Whole Number (Value.Integer n) e) (Refused (fault OutOfLimit at))
 valued at e (Numeral.Float m sign x f) = floated at e (floatValue m sign x f)
 
--- 01: a number that reaches the end of the text is refusal 1; only the number call, `field`, accepts it
-unfoldable pub numbered : Bool → ℕ → NumberToken → Plain
-numbered field at (NumberToken.Whole n e) = valued at e n
-numbered field at (NumberToken.Partial n e) = cond field (valued at e n) (Refused (fault EndOfText e))
-numbered field at (NumberToken.Refused w) = Refused w
+-- 01: a number that reaches the end of the text, a partial one, is refusal 1
+unfoldable pub numbered : ℕ → NumberToken → Plain
+numbered at (NumberToken.Whole n e) = valued at e n
+numbered at (NumberToken.Partial n e) = Refused (fault EndOfText e)
+numbered at (NumberToken.Refused w) = Refused w
+
+-- 02, request 7: but in a field it is whole. Nothing else hangs on the text's origin, a file or a field
+abbrev pub sourced : Source → NumberToken → NumberToken
+sourced File x = x
+sourced Field (NumberToken.Whole n e) = NumberToken.Whole n e
+sourced Field (NumberToken.Partial n e) = NumberToken.Whole n e
+sourced Field (NumberToken.Refused w) = NumberToken.Refused w
 
 -- 6.4: a token that begins with x and is not quoted
-unfoldable pub plainToken : List ℕ → ℕ → Bool → ℕ → Plain
-plainToken s at layout x =
-    cond (is decimalDigit x) (numbered false at (numberToken s at))
+unfoldable pub plainToken : Source → List ℕ → ℕ → Bool → ℕ → Plain
+plainToken origin s at layout x =
+    cond (is decimalDigit x) (numbered at (sourced origin (numberToken s at)))
     (cond (is soloChar x) (soloToken s at layout x)
     (cond (is capitalLetter x) (variableToken s at)
     (cond (is underscoreChar x) (variableToken s at)
     (cond (eqb x point) (endToken s at)
     (nameToken s at x)))))
-
--- 01: where no digit starts, the number call reads a name by the name rules only
-unfoldable pub plainNumber : List ℕ → ℕ → ℕ → Plain
-plainNumber s at x = cond (is decimalDigit x) (numbered true at (numberToken s at)) (nameToken s at x)
-
-abbrev pub plain : Bool → List ℕ → ℕ → Bool → ℕ → Plain
-plain field s at layout x = cond field (plainNumber s at x) (plainToken s at layout x)
 
 -- ---- any token: with its end, and what its text is
 
@@ -176,30 +178,29 @@ unfoldable pub quotedTo : Kind → ℕ → Quoted → Lexeme
 quotedTo k at (Quoted.whole bs e) = lexeme (token k Nothing at) e (decoded bs)
 quotedTo k at (Quoted.refused w) = refused w
 
--- 6.4.2 quoted token, 6.4.6 double quoted list token. -- departs: no token begins with a back quote; the number call reads no string
-unfoldable pub quotedLexeme : Bool → List ℕ → ℕ → ℕ → Lexeme
-quotedLexeme field s at x =
+-- 6.4.2 quoted token, 6.4.6 double quoted list token. -- departs: no token begins with a back quote
+unfoldable pub quotedLexeme : List ℕ → ℕ → ℕ → Lexeme
+quotedLexeme s at x =
     cond (eqb x singleQuote) (quotedTo Name at (decode singleQuote at s (at + 1)))
-    (cond field (refused (fault NoToken at))
     (cond (eqb x doubleQuote) (quotedTo String at (decode doubleQuote at s (at + 1)))
-    (refused (fault NoToken at))))
+    (refused (fault NoToken at)))
 
--- a token that begins with x, for the token call or, where `field`, for the number call; `layout` says whether layout stands before it
-unfoldable pub lexemeTo : Bool → List ℕ → ℕ → Bool → Look → Lexeme
-lexemeTo field s at layout (Look.Refused w) = refused w
-lexemeTo field s at layout (Look.Byte x) =
-    cond (is quoteChar x) (quotedLexeme field s at x)
-    (plainLexeme at (plain field s at layout x))
+-- a token that begins with x; `layout` says whether layout stands before it
+unfoldable pub lexemeTo : Source → List ℕ → ℕ → Bool → Look → Lexeme
+lexemeTo origin s at layout (Look.Refused w) = refused w
+lexemeTo origin s at layout (Look.Byte x) =
+    cond (is quoteChar x) (quotedLexeme s at x)
+    (plainLexeme at (plainToken origin s at layout x))
 
 -- 6.4: layout text, then a token
-unfoldable pub afterLayout : Bool → List ℕ → ℕ → Scan → Lexeme
-afterLayout field s from (Scan.Refused w) = refused w
-afterLayout field s from (Scan.Stop at) = lexemeTo field s at (ltb from at) (lookahead s at)
+unfoldable pub afterLayout : Source → List ℕ → ℕ → Scan → Lexeme
+afterLayout origin s from (Scan.Refused w) = refused w
+afterLayout origin s from (Scan.Stop at) = lexemeTo origin s at (ltb from at) (lookahead s at)
 
-abbrev pub readLexeme : Bool → List ℕ → ℕ → Lexeme
-readLexeme field s from = afterLayout field s from (layoutEnd s from)
+abbrev pub readLexeme : Source → List ℕ → ℕ → Lexeme
+readLexeme origin s from = afterLayout origin s from (layoutEnd s from)
 
--- ---- the calls
+-- ---- the call
 
 unfoldable pub answered : List ℕ → Cursor → Lexeme → Answer
 answered s c (lexeme t e x) = Answer.Read t (moveTo s c e)
@@ -209,19 +210,13 @@ answered s c (refused w) = Answer.Refused w c
 abbrev pub notValid : Fault
 notValid = fault NotValid 0
 
-abbrev pub call : Bool → List ℕ → Cursor → Answer
-call field s c = cond (valid (length s) c) (answered s c (readLexeme field s (c .offset))) (Answer.Refused notValid c)
+-- 02, request 7: one call, "told whether the text is a file or a field"
+abbrev pub nextToken : Source → List ℕ → Cursor → Answer
+nextToken origin s c = cond (valid (length s) c) (answered s c (readLexeme origin s (c .offset))) (Answer.Refused notValid c)
 
--- the token at a cursor, where no layout is passed over; `layout` says whether layout stands before it
+-- the token of a file at a cursor, where no layout is passed over; `layout` says whether layout stands before it
 abbrev pub tokenHere : Bool → List ℕ → Cursor → Answer
-tokenHere layout s c = cond (valid (length s) c) (answered s c (lexemeTo false s (c .offset) layout (lookahead s (c .offset)))) (Answer.Refused notValid c)
-
--- the token call, and the number call
-abbrev pub nextToken : List ℕ → Cursor → Answer
-nextToken s c = call false s c
-
-abbrev pub nextNumberToken : List ℕ → Cursor → Answer
-nextNumberToken s c = call true s c
+tokenHere layout s c = cond (valid (length s) c) (answered s c (lexemeTo File s (c .offset) layout (lookahead s (c .offset)))) (Answer.Refused notValid c)
 
 -- ---- what the code keeps of a token that it found at the cursor c: how long its decoded text is, and the cursor behind it
 abbrev pub kept : Text → Spelling
@@ -256,15 +251,15 @@ pub record Unmarked (s : List ℕ) (at x : ℕ) : Type 0 where
   pub unmarked : mark false x ≡ Mark.Other
   pub no-letter : within smallLetter underscoreChar (classOf x) ≡ false
 
--- nor a digit
-pub record Symbolic (s : List ℕ) (at x : ℕ) : Type 0 where
-  pub at-unmarked : Unmarked s at x
-  pub no-digit : is decimalDigit x ≡ false
-
 -- a valid cursor at the byte x
 pub record Begins (s : List ℕ) (c : Cursor) (x : ℕ) : Type 0 where
   pub valid : Valid (length s) c
   pub there : lookahead s (c .offset) ≡ Look.Byte x
+
+-- and that is a quote
+pub record Quotes (s : List ℕ) (c : Cursor) (x : ℕ) : Type 0 where
+  pub begins : Begins s c x
+  pub quote : is quoteChar x ≡ true
 
 -- a valid cursor, and a later offset, with no newline on the way but perhaps the last character
 pub record Passing (s : List ℕ) (c : Cursor) (e : ℕ) : Type 0 where

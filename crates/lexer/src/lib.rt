@@ -35,7 +35,7 @@ pub use text::next_token_text;
 pub use text::quoted_text;
 pub use text::show;
 pub use token::Answer;
+pub use token::Source;
 pub use token::Token;
-pub use token::next_number_token;
 pub use token::next_token;
 pub use token::token_here;

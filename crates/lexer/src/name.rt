@@ -18,7 +18,7 @@ ghost use Rattle.lexer.specs.declared.chars.Look.{Look};
 ghost use Rattle.lexer.specs.declared.kind.Kind.the-variants.{Name};
 ghost use Rattle.lexer.specs.declared.kind.Value.the-variants.{Nothing};
 ghost use Rattle.lexer.specs.declared.kind.Plain.{Plain};
-ghost use Rattle.lexer.specs.Name.{runStop, runToken, alphanumerics, graphics, graphicToken, soloName, symbolName, wordKind, wordTaken, wordToken};
+ghost use Rattle.lexer.specs.Name.{runStop, runToken, alphanumerics, graphics, graphicToken, soloName, symbolName, wordKind, wordToken};
 
 // A run stops before the byte `b`, unless that is foreign.
 fn run_stop(at: usize, b: u8) -> Scan
@@ -131,26 +131,12 @@ fn word_kind(b: u8) -> Kind
     }
 }
 
-// A field takes no variable.
-fn is_taken(field: bool, b: u8) -> bool
-    ensures { λ r. ⌜ r ≡ wordTaken field b ⌝ }
-{
-    if field { is_small(b) } else { true }
-}
-
 // The name or variable that the letter or underscore `b` at `at` begins. One loop serves both: the kind is chosen without a branch.
-pub(crate) fn word_token(text: &[u8], at: usize, field: bool, b: u8) -> Plain
+pub(crate) fn word_token(text: &[u8], at: usize, b: u8) -> Plain
     requires { ⌜ at < length (now text) ⌝ }
-    ensures { λ r. ⌜ r ≡ wordToken field (now (text .entry)) at b ⌝ }
+    ensures { λ r. ⌜ r ≡ wordToken (now (text .entry)) at b ⌝ }
 {
-    if is_taken(field, b) {
-        run_token(word_kind(b), alphanumeric_end(text, at + 1))
-    } else {
-        Plain::Refused(Fault {
-            refusal: Refusal::NoToken,
-            offset: at,
-        })
-    }
+    run_token(word_kind(b), alphanumeric_end(text, at + 1))
 }
 
 // The name that begins with `b`, at `at`, which is no small letter. Whether `b` is graphic, the run itself tells.

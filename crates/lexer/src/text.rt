@@ -9,6 +9,7 @@ use crate::quoted::write_quoted;
 use crate::refusal::Fault;
 use crate::refusal::Refusal;
 use crate::token::Found;
+use crate::token::Source;
 use crate::token::Spelling;
 use crate::token::Token;
 use crate::token::not_valid;
@@ -112,7 +113,7 @@ fn text_at(text: &[u8], cursor: Cursor, scratch: &mut [u8]) -> TextAnswer
     requires { ⌜ Valid (length (now text)) cursor ⌝ }
     ensures { λ r. ⌜ leaves r (now (scratch .exit)) ≡ tokenText (now (text .entry)) cursor (now (scratch .entry)) ⌝ }
 {
-    match read_token(text, cursor, false) {
+    match read_token(text, cursor, Source::File) {
         Found::Refused(fault) => TextAnswer::Refused { fault, cursor },
         Found::Whole {
             offset,

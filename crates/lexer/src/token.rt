@@ -1,4 +1,4 @@
-// Tokens, and the token and number calls.
+// Tokens, and the token call.
 use crate::chars::Look;
 use crate::chars::Peek;
 use crate::chars::lookahead_char;
@@ -35,26 +35,33 @@ ghost use mathlib.Core.Bool.{true, false, cond};
 ghost use Prim.Native.Nat.{_+_, _<_};
 ghost use lib.Dec.{eqb};
 ghost use lib.ListN.{length};
-ghost use Rattle.lexer.specs.Chars.{singleQuote, doubleQuote};
-ghost use Rattle.lexer.specs.Cursor.{longest, Valid, moveTo};
+ghost use Rattle.lexer.specs.Chars.{singleQuote};
+ghost use Rattle.lexer.specs.Cursor.{Valid, moveTo};
 ghost use Rattle.lexer.specs.Refusal.{fault};
 ghost use Rattle.lexer.specs.declared.refusal.Refusal.the-variants.{NoToken, OutOfLimit};
 ghost use Rattle.lexer.specs.declared.token.Answer.{Answer};
 ghost use Rattle.lexer.specs.declared.token.Found.{Found};
 ghost use Rattle.lexer.specs.declared.token.Mark.{Mark};
+ghost use Rattle.lexer.specs.declared.token.Source.the-variants.{File};
 ghost use Rattle.lexer.specs.declared.kind.Kind.the-variants.{Name, String};
 ghost use Rattle.lexer.specs.declared.kind.Plain.{Plain};
 ghost use Rattle.lexer.specs.declared.kind.Value.{Value};
 ghost use Rattle.lexer.specs.Number.{numberToken};
 ghost use Rattle.lexer.specs.Quoted.{decode};
 ghost use Rattle.lexer.specs.Look.{lookahead};
-ghost use Rattle.lexer.specs.Token.{mark, isMark, barToken, endToken, valued, numbered, plainToken, plain, textOf, kept, plainLexeme, quotedTo, quotedLexeme, lexemeTo, readLexeme, answered, notValid, call, tokenHere, nextToken, nextNumberToken, spelledTo, found, At, AtDigit, Unmarked, Symbolic, Begins, Passing};
+ghost use Rattle.lexer.specs.Token.{mark, isMark, barToken, endToken, valued, numbered, sourced, plainToken, textOf, kept, plainLexeme, quotedTo, quotedLexeme, lexemeTo, readLexeme, answered, notValid, tokenHere, nextToken, spelledTo, found, At, AtDigit, Unmarked, Begins, Quotes, Passing};
 
 // A token, whose span ends where the cursor behind it stands.
 pub struct Token {
     pub kind: Kind,
     pub value: Value,
     pub start: usize,
+}
+
+// What the text is: a file, or what was typed into a field, where a number may reach the end.
+pub enum Source {
+    File,
+    Field,
 }
 
 pub enum Answer {
@@ -218,33 +225,43 @@ fn number_value(at: usize, end: usize, numeral: Numeral) -> Plain
     }
 }
 
-// The number that the digit at `at` begins; in a field it may reach the end of the text.
-fn whole_number(text: &[u8], at: usize, field: bool) -> Plain
-    requires { ⌜ AtDigit (now text) at ⌝ }
-    ensures { λ r. ⌜ r ≡ numbered field at (numberToken (now (text .entry)) at) ⌝ }
+// In a field a number that reaches the end of the text is whole.
+fn in_source(number: NumberToken, source: Source) -> NumberToken
+    ensures { λ r. ⌜ r ≡ sourced source number ⌝ }
 {
-    match number_token(text, at) {
-        NumberToken::Refused(fault) => Plain::Refused(fault),
-        NumberToken::Whole { numeral, end } => number_value(at, end, numeral),
-        NumberToken::Partial { numeral, end } => {
-            if field {
-                number_value(at, end, numeral)
-            } else {
-                Plain::Refused(Fault {
-                    refusal: Refusal::EndOfText,
-                    offset: end,
-                })
-            }
-        }
+    match source {
+        Source::File => number,
+        Source::Field => match number {
+            NumberToken::Refused(_) => number,
+            NumberToken::Whole { numeral: _, end: _ } => number,
+            NumberToken::Partial { numeral, end } => NumberToken::Whole { numeral, end },
+        },
     }
 }
 
-// The token at `at` that begins with a symbol `b`: the end mark and bars, which a field does not take, or a name.
-fn plain_token(text: &[u8], at: usize, b: u8) -> Plain
-    requires { ⌜ Symbolic (now text) at b ⌝ }
-    ensures { λ r. ⌜ r ≡ plainToken (now (text .entry)) at false b ⌝ }
+// The number that the digit at `at` begins. One call serves whole numbers of both sources, so that the compiler lays it in.
+fn whole_number(text: &[u8], at: usize, source: Source) -> Plain
+    requires { ⌜ AtDigit (now text) at ⌝ }
+    ensures { λ r. ⌜ r ≡ numbered at (sourced source (numberToken (now (text .entry)) at)) ⌝ }
 {
-    if b == b'.' {
+    match in_source(number_token(text, at), source) {
+        NumberToken::Refused(fault) => Plain::Refused(fault),
+        NumberToken::Whole { numeral, end } => number_value(at, end, numeral),
+        NumberToken::Partial { numeral: _, end } => Plain::Refused(Fault {
+            refusal: Refusal::EndOfText,
+            offset: end,
+        }),
+    }
+}
+
+// The token at `at` that begins with `b`, which is no mark and begins no word.
+fn unmarked_token(text: &[u8], at: usize, source: Source, b: u8) -> Plain
+    requires { ⌜ Unmarked (now text) at b ⌝ }
+    ensures { λ r. ⌜ r ≡ plainToken source (now (text .entry)) at false b ⌝ }
+{
+    if is_digit(b) {
+        whole_number(text, at, source)
+    } else if b == b'.' {
         end_token(text, at)
     } else if b == b'|' {
         bar_token(text, at)
@@ -253,46 +270,17 @@ fn plain_token(text: &[u8], at: usize, b: u8) -> Plain
     }
 }
 
-// The token at `at` that begins with `b`, which is no mark and begins no word.
-fn unmarked_token(text: &[u8], at: usize, field: bool, b: u8) -> Plain
-    requires { ⌜ Unmarked (now text) at b ⌝ }
-    ensures { λ r. ⌜ r ≡ plain field (now (text .entry)) at false b ⌝ }
-{
-    if is_digit(b) {
-        whole_number(text, at, field)
-    } else if field {
-        symbol_name(text, at, b)
-    } else {
-        plain_token(text, at, b)
-    }
-}
-
-// A mark, which a field does not take.
-fn mark_token(kind: Kind, at: usize, field: bool) -> Plain
-    requires { ⌜ at < longest ⌝ }
-    ensures { λ r. ⌜ r ≡ cond field (Plain.Refused (fault NoToken at)) (Plain.Whole kind Value.Nothing (at + 1)) ⌝ }
-{
-    if field {
-        Plain::Refused(Fault {
-            refusal: Refusal::NoToken,
-            offset: at,
-        })
-    } else {
-        whole(kind, at + 1)
-    }
-}
-
 // The token at `at` that begins with `b` and is not quoted. Words and marks come first: they are nearly all tokens.
-fn plain_read(text: &[u8], at: usize, layout: bool, field: bool, b: u8) -> Plain
+fn plain_read(text: &[u8], at: usize, layout: bool, source: Source, b: u8) -> Plain
     requires { ⌜ At (now text) at b ⌝ }
-    ensures { λ r. ⌜ r ≡ plain field (now (text .entry)) at layout b ⌝ }
+    ensures { λ r. ⌜ r ≡ plainToken source (now (text .entry)) at layout b ⌝ }
 {
     if is_alphabetic(b) {
-        return word_token(text, at, field, b);
+        return word_token(text, at, b);
     }
     match mark_of(b, layout) {
-        Mark::Is(kind) => mark_token(kind, at, field),
-        Mark::Other => unmarked_token(text, at, field, b),
+        Mark::Is(kind) => whole(kind, at + 1),
+        Mark::Other => unmarked_token(text, at, source, b),
     }
 }
 
@@ -360,12 +348,12 @@ fn past_token(text: &[u8], c: Cursor, end: usize) -> Cursor
 }
 
 // The token at the cursor that begins with `b` and is not quoted.
-fn plain_found(text: &[u8], c: Cursor, layout: bool, field: bool, b: u8) -> Found
+fn plain_found(text: &[u8], c: Cursor, layout: bool, source: Source, b: u8) -> Found
     requires { ⌜ Begins (now text) c b ⌝ }
-    ensures { λ r. ⌜ r ≡ found (now (text .entry)) c (plainLexeme (c .offset) (plain field (now (text .entry)) (c .offset) layout b)) ⌝ }
+    ensures { λ r. ⌜ r ≡ found (now (text .entry)) c (plainLexeme (c .offset) (plainToken source (now (text .entry)) (c .offset) layout b)) ⌝ }
 {
     let at = c.offset;
-    match plain_read(text, at, layout, field, b) {
+    match plain_read(text, at, layout, source, b) {
         Plain::Refused(fault) => Found::Refused(fault),
         Plain::Whole { kind, value, end } => spelled(
             Token {
@@ -415,66 +403,54 @@ fn quoted_kind(b: u8) -> Kind
     if b == b'\'' { Kind::Name } else { Kind::String }
 }
 
-// A back quote begins no token, and a field takes no string.
-fn is_quote_taken(field: bool, b: u8) -> bool
-    ensures { λ r. ⌜ r ≡ cond (eqb b singleQuote) true (cond field false (eqb b doubleQuote)) ⌝ }
+// The token at the cursor that begins with the quote `b`; a back quote begins none. One call serves the two others: the
+// kind is chosen without a branch.
+fn quoted_found(text: &[u8], c: Cursor, b: u8) -> Found
+    requires { ⌜ Quotes (now text) c b ⌝ }
+    ensures { λ r. ⌜ r ≡ found (now (text .entry)) c (quotedLexeme (now (text .entry)) (c .offset) b) ⌝ }
 {
-    if b == b'\'' {
-        return true;
-    }
-    if field {
-        return false;
-    }
-    b == b'"'
-}
-
-// The token at the cursor that begins with the quote `b`. One call serves both quotes: the kind is chosen without a branch.
-fn quoted_found(text: &[u8], c: Cursor, field: bool, b: u8) -> Found
-    requires { ⌜ Begins (now text) c b ⌝ }
-    ensures { λ r. ⌜ r ≡ found (now (text .entry)) c (quotedLexeme field (now (text .entry)) (c .offset) b) ⌝ }
-{
-    if is_quote_taken(field, b) {
-        quoted_token(text, c, b, quoted_kind(b))
-    } else {
+    if b == b'`' {
         no_token(c.offset)
+    } else {
+        quoted_token(text, c, b, quoted_kind(b))
     }
 }
 
 // The token at the cursor.
-fn token_at(text: &[u8], c: Cursor, layout: bool, field: bool) -> Found
+fn token_at(text: &[u8], c: Cursor, layout: bool, source: Source) -> Found
     requires { ⌜ Valid (length (now text)) c ⌝ }
-    ensures { λ r. ⌜ r ≡ found (now (text .entry)) c (lexemeTo field (now (text .entry)) (c .offset) layout (lookahead (now (text .entry)) (c .offset))) ⌝ }
+    ensures { λ r. ⌜ r ≡ found (now (text .entry)) c (lexemeTo source (now (text .entry)) (c .offset) layout (lookahead (now (text .entry)) (c .offset))) ⌝ }
 {
     let at = c.offset;
     match lookahead_char(text, at) {
         Look::Refused(fault) => Found::Refused(fault),
         Look::Byte(b) => {
             if is_quote(b) {
-                quoted_found(text, c, field, b)
+                quoted_found(text, c, b)
             } else {
-                plain_found(text, c, layout, field, b)
+                plain_found(text, c, layout, source, b)
             }
         }
     }
 }
 
-// The token behind the layout at a valid cursor; in a field, for the number call.
-pub(crate) fn read_token(text: &[u8], cursor: Cursor, field: bool) -> Found
+// The token behind the layout at a valid cursor.
+pub(crate) fn read_token(text: &[u8], cursor: Cursor, source: Source) -> Found
     requires { ⌜ Valid (length (now text)) cursor ⌝ }
-    ensures { λ r. ⌜ r ≡ found (now (text .entry)) cursor (readLexeme field (now (text .entry)) (cursor .offset)) ⌝ }
+    ensures { λ r. ⌜ r ≡ found (now (text .entry)) cursor (readLexeme source (now (text .entry)) (cursor .offset)) ⌝ }
 {
     match scan_for_layout(text, cursor) {
         Moved::Refused(fault) => Found::Refused(fault),
-        Moved::To(c) => token_at(text, c, cursor.offset < c.offset, field),
+        Moved::To(c) => token_at(text, c, cursor.offset < c.offset, source),
     }
 }
 
-// What either call answers at a valid cursor.
-fn answer_at(text: &[u8], cursor: Cursor, field: bool) -> Answer
+// What the token call answers at a valid cursor.
+fn answer_at(text: &[u8], cursor: Cursor, source: Source) -> Answer
     requires { ⌜ Valid (length (now text)) cursor ⌝ }
-    ensures { λ r. ⌜ r ≡ answered (now (text .entry)) cursor (readLexeme field (now (text .entry)) (cursor .offset)) ⌝ }
+    ensures { λ r. ⌜ r ≡ answered (now (text .entry)) cursor (readLexeme source (now (text .entry)) (cursor .offset)) ⌝ }
 {
-    match read_token(text, cursor, field) {
+    match read_token(text, cursor, source) {
         Found::Refused(fault) => Answer::Refused { fault, cursor },
         Found::Whole {
             offset,
@@ -493,26 +469,12 @@ fn answer_at(text: &[u8], cursor: Cursor, field: bool) -> Answer
     }
 }
 
-// What either call answers.
-fn answer_in(text: &[u8], cursor: Cursor, field: bool) -> Answer
-    ensures { λ r. ⌜ r ≡ call field (now (text .entry)) cursor ⌝ }
-{
-    if is_valid(text.len(), cursor) {
-        answer_at(text, cursor, field)
-    } else {
-        Answer::Refused {
-            fault: not_valid(),
-            cursor,
-        }
-    }
-}
-
-// The token at a valid cursor.
+// The token of a file at a valid cursor.
 fn answer_here(text: &[u8], cursor: Cursor, layout: bool) -> Answer
     requires { ⌜ Valid (length (now text)) cursor ⌝ }
-    ensures { λ r. ⌜ r ≡ answered (now (text .entry)) cursor (lexemeTo false (now (text .entry)) (cursor .offset) layout (lookahead (now (text .entry)) (cursor .offset))) ⌝ }
+    ensures { λ r. ⌜ r ≡ answered (now (text .entry)) cursor (lexemeTo File (now (text .entry)) (cursor .offset) layout (lookahead (now (text .entry)) (cursor .offset))) ⌝ }
 {
-    match token_at(text, cursor, layout, false) {
+    match token_at(text, cursor, layout, Source::File) {
         Found::Refused(fault) => Answer::Refused { fault, cursor },
         Found::Whole {
             offset,
@@ -531,7 +493,7 @@ fn answer_here(text: &[u8], cursor: Cursor, layout: bool) -> Answer
     }
 }
 
-// The token at the cursor, where no layout is passed over; `layout` says whether layout stands before it.
+// The token of a file at the cursor, where no layout is passed over; `layout` says whether layout stands before it.
 pub fn token_here(text: &[u8], cursor: Cursor, layout: bool) -> Answer
     ensures { λ r. ⌜ r ≡ tokenHere layout (now (text .entry)) cursor ⌝ }
 {
@@ -556,15 +518,15 @@ pub(crate) fn not_valid() -> Fault
 }
 
 // The token call.
-pub fn next_token(text: &[u8], cursor: Cursor) -> Answer
-    ensures { λ r. ⌜ r ≡ nextToken (now (text .entry)) cursor ⌝ }
+pub fn next_token(text: &[u8], cursor: Cursor, source: Source) -> Answer
+    ensures { λ r. ⌜ r ≡ nextToken source (now (text .entry)) cursor ⌝ }
 {
-    answer_in(text, cursor, false)
-}
-
-// The number call: the token of a field, where a number may reach the end of the text.
-pub fn next_number_token(text: &[u8], cursor: Cursor) -> Answer
-    ensures { λ r. ⌜ r ≡ nextNumberToken (now (text .entry)) cursor ⌝ }
-{
-    answer_in(text, cursor, true)
+    if is_valid(text.len(), cursor) {
+        answer_at(text, cursor, source)
+    } else {
+        Answer::Refused {
+            fault: not_valid(),
+            cursor,
+        }
+    }
 }

@@ -11,6 +11,7 @@ use Rattle.lexer.specs.Chars.{newline}
 use Rattle.lexer.specs.Cursor.{step, walk, part, moveTo}
 use Rattle.lexer.specs.Token.{Lexeme, lexeme, refused, readLexeme}
 use Rattle.lexer.specs.declared.cursor.Cursor.{Cursor}
+use Rattle.lexer.specs.declared.token.Source.the-variants.{File}
 use Rattle.lexer.proofs.Theorems.{is-valid, lexeme-bounds, move-offset, part-at, part-none}
 use Rattle.reader.specs.Token.{Token}
 use Rattle.reader.specs.Tree.{Tree}
@@ -115,10 +116,10 @@ module _ (s : List ℕ) (c : Cursor) (o : ℕ) (l : c .offset ≤ o) (h : True s
 -- so is the cursor's behind tokens that were gathered
 module _ (s : List ℕ) (c : Cursor) (n : ℕ) (ts : List Token) (e : Cursor) (i : c .offset ≤ length s) (h : True s c)
     (next : (d : Cursor) (us : List Token) → d .offset ≤ length s → True s d → gather n s d ≡ whole us e → True s e) where
-  one-lexeme : (x : Lexeme) → readLexeme false s (c .offset) ≡ x → onward s c x (λ d. gather n s d) ≡ whole ts e → True s e
+  one-lexeme : (x : Lexeme) → readLexeme File s (c .offset) ≡ x → onward s c x (λ d. gather n s d) ≡ whole ts e → True s e
   unfolding onward
   one-lexeme (refused w) q g = let z : _≡_ {A = ℕ} 0 1 = cc in absurd (omega arith)
-  one-lexeme (lexeme t k x) q g = let p = lexeme-bounds false s (c .offset) t k x i q in go (omega (arith, p .behind, p .ahead)) (p .inside) (isEnd (t .kind)) g
+  one-lexeme (lexeme t k x) q g = let p = lexeme-bounds File s (c .offset) t k x i q in go (omega (arith, p .behind, p .ahead)) (p .inside) (isEnd (t .kind)) g
     where
       go : c .offset ≤ k → k ≤ length s → (b : Bool) → cond b (whole (tokenIn s t k x ∷ []) (moveTo s c k)) (with (tokenIn s t k x) (gather n s (moveTo s c k))) ≡ whole ts e → True s e
       go u v true r = let z : moveTo s c k ≡ e = cc in subst (True s) z (move-true s c k u h v)
@@ -129,7 +130,7 @@ module _ (s : List ℕ) (c : Cursor) (n : ℕ) (ts : List Token) (e : Cursor) (i
 gather-true : (n : ℕ) (s : List ℕ) (c : Cursor) (ts : List Token) (e : Cursor) → c .offset ≤ length s → True s c → gather n s c ≡ whole ts e → True s e
 unfolding gather
 gather-true zero s c ts e i h g = let z : _≡_ {A = ℕ} 0 1 = cc in absurd (omega arith)
-gather-true (suc n) s c ts e i h g = one-lexeme s c n ts e i h (λ d us j k r. gather-true n s d us e j k r) (readLexeme false s (c .offset)) refl g
+gather-true (suc n) s c ts e i h g = one-lexeme s c n ts e i h (λ d us j k r. gather-true n s d us e j k r) (readLexeme File s (c .offset)) refl g
 
 module _ (s : List ℕ) (c : Cursor) (ts : List Token) (e : Cursor) (t : Tree) (o : ClauseAt s c ts e t) (h : True s c) where
   pub clause-line : clauseForm Version.Two s c ≡ Two (newlines (take (firstOffset s c) s) + 1)

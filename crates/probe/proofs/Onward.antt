@@ -8,6 +8,7 @@ use Rattle.lexer.specs.Token.{nextToken}
 use Rattle.lexer.specs.declared.cursor.Cursor.{Cursor}
 use Rattle.lexer.specs.declared.token.Answer.{Answer}
 use Rattle.lexer.specs.declared.token.Token.{Token}
+use Rattle.lexer.specs.declared.token.Source.the-variants.{File}
 use Rattle.lexer.proofs.Theorems.{token-promises}
 use Rattle.probe.specs.Nearer.{Nearer}
 use Rattle.reader.specs.Clause.{Outcome}
@@ -15,8 +16,8 @@ use Rattle.reader.specs.declared.clause.ClauseAnswer.{ClauseAnswer}
 use Rattle.reader.proofs.Theorems.{next-cursor}
 
 -- less lies behind the new cursor than behind the old one
-pub nearer : (s : List ℕ) (c n : Cursor) (t : Token) (a : Answer) → a ≡ nextToken s c → a ≡ Answer.Read t n → length s - n .offset < length s - c .offset
-nearer s c n t a e g = let p = token-promises s c t n (sym e ∙ g) in omega (arith, p .further, p .inside)
+pub nearer : (s : List ℕ) (c n : Cursor) (t : Token) (a : Answer) → a ≡ nextToken File s c → a ≡ Answer.Read t n → length s - n .offset < length s - c .offset
+nearer s c n t a e g = let p = token-promises s c File t n (sym e ∙ g) in omega (arith, p .further, p .inside)
 
 pub clause-nearer : (s : List ℕ) (c : Cursor) (d x : List ℕ) (a : ClauseAnswer) → Outcome s c d a x → Nearer s c a
 clause-nearer s c d x a o n e g = let p = next-cursor s c d (rw g at o) in omega (arith, p .1, p .2)

@@ -10,6 +10,7 @@ use lexer::Answer;
 use lexer::Cursor;
 use lexer::Fault;
 use lexer::Kind;
+use lexer::Source;
 use lexer::TextAnswer;
 use lexer::Token;
 use lexer::Value;
@@ -101,7 +102,7 @@ fn scratch_line(out: &mut [u8], filled: usize, scratch: &[u8]) -> usize {
     put(out, with_bytes, b'\n')
 }
 
-// The answer of the token call or of the number call.
+// The answer of the token call.
 fn answer_line(out: &mut [u8], filled: usize, answer: Answer) -> usize {
     match answer {
         Answer::Read { token, next } => token_line(out, filled, token, next),
@@ -109,12 +110,12 @@ fn answer_line(out: &mut [u8], filled: usize, answer: Answer) -> usize {
     }
 }
 
-// Token calls, each from the cursor that the last one gave, until one is refused. Each cursor stands behind the one before, so a refusal comes.
+// Token calls of a file, each from the cursor that the last one gave, until one is refused. Each cursor stands behind the one before, so a refusal comes.
 fn token_lines(out: &mut [u8], filled: usize, text: &[u8], cursor: Cursor) -> usize {
     let mut at = cursor;
     let mut now_filled = filled;
     loop {
-        let answer = lexer::next_token(text, at);
+        let answer = lexer::next_token(text, at, Source::File);
         now_filled = answer_line(out, now_filled, answer);
         match answer {
             Answer::Read { token: _, next } => at = next,
@@ -260,9 +261,9 @@ fn answer(
     requires { ⌜ room ≤ largestRoom ⌝ }
 {
     match call {
-        b't' => answer_line(out, filled, lexer::next_token(text, cursor)),
+        b't' => answer_line(out, filled, lexer::next_token(text, cursor, Source::File)),
         b'T' => token_lines(out, filled, text, cursor),
-        b'n' => answer_line(out, filled, lexer::next_number_token(text, cursor)),
+        b'n' => answer_line(out, filled, lexer::next_token(text, cursor, Source::Field)),
         b'x' => text_case(out, filled, text, cursor, room),
         b'c' => clause_case(out, filled, text, cursor, room).filled,
         b'C' => clause_cases(out, filled, text, cursor, room),

@@ -7,6 +7,7 @@ use native.Mathlib.Omega.{arith}
 use Rattle.lexer.specs.Cursor.{moveTo}
 use Rattle.lexer.specs.Token.{Lexeme, lexeme, refused, readLexeme}
 use Rattle.lexer.specs.declared.cursor.Cursor.{Cursor}
+use Rattle.lexer.specs.declared.token.Source.the-variants.{File}
 use Rattle.reader.specs.Token.{Kind, Name, Variable, String, Number, Open, OpenCT, Close, OpenList, CloseList, OpenCurly, CloseCurly, HeadTailSeparator, DoubleBar, Comma, End, Token, terminals}
 use Rattle.reader.specs.Ops.{operators}
 use Rattle.reader.specs.Tree.{Tree, packed}
@@ -72,7 +73,7 @@ marked-with t ts e y i k = let a = tail t ts e y k in subst (λ (z : List Token)
 gathered-marked : (n : ℕ) (s : List ℕ) (c : Cursor) (ts : List Token) (e : Cursor) → gather n s c ≡ whole ts e → Marked ts
 unfolding gather onward
 gathered-marked zero s c ts e g = let z : _≡_ {A = ℕ} 0 1 = cc in absurd (omega arith)
-gathered-marked (suc n) s c ts e g = go (readLexeme false s (c .offset)) g (λ d us f h. gathered-marked n s d us f h)
+gathered-marked (suc n) s c ts e g = go (readLexeme File s (c .offset)) g (λ d us f h. gathered-marked n s d us f h)
   where
     pick : (t : Token) (d : Cursor) (b : Bool) → isEnd (t .kind) ≡ b → ((us : List Token) (f : Cursor) → gather n s d ≡ whole us f → Marked us) → cond b (whole (t ∷ []) d) (with t (gather n s d)) ≡ whole ts e → Marked ts
     pick t d true h i k = let q : t ∷ [] ≡ ts = cc in subst (λ (z : List Token). Marked z) q (record { front = []; last = t; parts = refl; mark = is-end (t .kind) h })

@@ -11,6 +11,7 @@ use Rattle.lexer.specs.Token.{Text, source, decoded, none, Lexeme, lexeme, refu
 use Rattle.lexer.specs.declared.cursor.Cursor.{Cursor}
 use Rattle.lexer.specs.declared.refusal.Refusal.the-variants.{BadQuoted}
 use Rattle.lexer.specs.declared.token.Token as lexer
+use Rattle.lexer.specs.declared.token.Source.the-variants.{File}
 use Rattle.lexer.proofs.Theorems.{blank, blanked, returns-read-alike, return-in-no-name, returns-move-alike}
 use Rattle.reader.specs.Token.{Token}
 use Rattle.reader.specs.Clause.{mostTokens, textIn, tokenIn, isEnd, Gathered, stopped, with, onward, gather, clauseTokens, startOf, firstOffset, Outcome, invalid, token, noMark, noReading, noRoom, read}
@@ -38,14 +39,14 @@ module _ (s : List ℕ) where
   s′ = blanked s
 
   -- the text of a token
-  text-same : (from : ℕ) (t : lexer.Token) (e : ℕ) (x : Text) → readLexeme false s from ≡ lexeme t e x → textIn s′ (t .start) e x ≡ textIn s (t .start) e x
+  text-same : (from : ℕ) (t : lexer.Token) (e : ℕ) (x : Text) → readLexeme File s from ≡ lexeme t e x → textIn s′ (t .start) e x ≡ textIn s (t .start) e x
   unfolding textIn
-  text-same from t e source f = return-in-no-name false s from t e f
+  text-same from t e source f = return-in-no-name File s from t e f
   text-same from t e (decoded bs) f = refl
   text-same from t e none f = refl
 
   -- a token that was read, and what follows it
-  onward-alike : (n : ℕ) (c : Cursor) → ((d : Cursor) → Alike (gather n s′ d) (gather n s d)) → (l : Lexeme) → readLexeme false s (c .offset) ≡ l
+  onward-alike : (n : ℕ) (c : Cursor) → ((d : Cursor) → Alike (gather n s′ d) (gather n s d)) → (l : Lexeme) → readLexeme File s (c .offset) ≡ l
       → Alike (onward s′ c l (λ d. gather n s′ d)) (onward s c l (λ d. gather n s d))
   unfolding onward
   onward-alike n c h (refused w) f = inl refl
@@ -57,8 +58,8 @@ module _ (s : List ℕ) where
   unfolding gather onward
   gather-alike zero c = inl refl
   gather-alike (suc n) c =
-      ⊎-elim (λ e. rw e (onward-alike n c (gather-alike n) (readLexeme false s (c .offset)) refl)) (λ f. inr (f .0, rw (f .1)))
-      (returns-read-alike false s (c .offset))
+      ⊎-elim (λ e. rw e (onward-alike n c (gather-alike n) (readLexeme File s (c .offset)) refl)) (λ f. inr (f .0, rw (f .1)))
+      (returns-read-alike File s (c .offset))
 
   module _ (c : Cursor) where
     pub tokens-alike : (clauseTokens (blanked s) c ≡ clauseTokens s c) ⊎ ((o : ℕ) × (clauseTokens s c ≡ stopped (fault BadQuoted o)))
@@ -67,7 +68,7 @@ module _ (s : List ℕ) where
     -- where the first token starts
     first-alike : (firstOffset s′ c ≡ firstOffset s c) ⊎ ((o : ℕ) × (clauseTokens s c ≡ stopped (fault BadQuoted o)))
     unfolding gather onward
-    first-alike = ⊎-elim (λ e. inl (ap startOf e)) (λ f. inr (f .0, rw (f .1))) (returns-read-alike false s (c .offset))
+    first-alike = ⊎-elim (λ e. inl (ap startOf e)) (λ f. inr (f .0, rw (f .1))) (returns-read-alike File s (c .offset))
 
     -- whether the cursor is valid
     valid-same : {b : Bool} → valid (length s) c ≡ b → valid (length s′) c ≡ b

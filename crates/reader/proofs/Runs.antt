@@ -8,6 +8,7 @@ use lib.ListN.{length}
 use Rattle.lexer.specs.Cursor.{moveTo, valid}
 use Rattle.lexer.specs.Token.{Lexeme, lexeme, refused, readLexeme}
 use Rattle.lexer.specs.declared.cursor.Cursor.{Cursor}
+use Rattle.lexer.specs.declared.token.Source.the-variants.{File}
 use Rattle.reader.specs.Token.{Token, terminals}
 use Rattle.reader.specs.Ops.{operators}
 use Rattle.reader.specs.Tree.{packed}
@@ -57,7 +58,7 @@ module _ (n i a : ℕ) (z : State) (s : List ℕ) (c : Cursor) (next : (b : ℕ)
 run-gather : (n i a : ℕ) (z : State) (s : List ℕ) (c : Cursor) → forget (clauseRun n i a z s c) ≡ resultBy a i z (gather n s c)
 unfolding clauseRun gather resultBy forget
 run-gather zero i a z s c = refl
-run-gather (suc n) i a z s c = one-lexeme n i a z s c (λ b y d. run-gather n (i + 1) b y s d) (readLexeme false s (c .offset))
+run-gather (suc n) i a z s c = one-lexeme n i a z s c (λ b y d. run-gather n (i + 1) b y s d) (readLexeme File s (c .offset))
 
 pub same-outcome : (s : List ℕ) (c : Cursor) (d : List ℕ) → byResult d (clauseRun mostTokens 0 0 start s c) ≡ byTokens d (gather mostTokens s c)
 unfolding byResult byTokens resultBy forget
@@ -94,7 +95,7 @@ module _ (n i f : ℕ) (z : State) (s : List ℕ) (c : Cursor) (next : (g : ℕ)
 light : (n i f : ℕ) (z : State) (s : List ℕ) (c : Cursor) → weightIn (clauseRun n i f z s c) ≤ weight z + n
 unfolding clauseRun weightIn
 light zero i f z s c = omega arith
-light (suc n) i f z s c = one-light n i f z s c (λ g y d. light n (i + 1) g y s d) (readLexeme false s (c .offset))
+light (suc n) i f z s c = one-light n i f z s c (λ g y d. light n (i + 1) g y s d) (readLexeme File s (c .offset))
 
 module _ (n i f g : ℕ) (z y : State) (s : List ℕ) (c d : Cursor) where
   pub finished-light : clauseRun n i f z s c ≡ finished g y d → weight y ≤ weight z + n
@@ -114,13 +115,13 @@ validIn s (paused f z d) = valid (length s) d
 run-valid : (n i f : ℕ) (z : State) (s : List ℕ) (c : Cursor) → valid (length s) c ≡ true → validIn s (clauseRun n i f z s c) ≡ true
 unfolding clauseRun runOn validIn
 run-valid zero i f z s c v = v
-run-valid (suc n) i f z s c v = go (readLexeme false s (c .offset)) refl (λ g y d. run-valid n (i + 1) g y s d)
+run-valid (suc n) i f z s c v = go (readLexeme File s (c .offset)) refl (λ g y d. run-valid n (i + 1) g y s d)
   where
     pick : (g : ℕ) (y : State) (d : Cursor) (b : Bool) → validIn s (clauseRun n (i + 1) g y s d) ≡ true → validIn s (cond b (finished g y d) (clauseRun n (i + 1) g y s d)) ≡ true
     pick g y d true h = refl
     pick g y d false h = h
 
-    go : (x : Lexeme) → readLexeme false s (c .offset) ≡ x → ((g : ℕ) (y : State) (d : Cursor) → valid (length s) d ≡ true → validIn s (clauseRun n (i + 1) g y s d) ≡ true)
+    go : (x : Lexeme) → readLexeme File s (c .offset) ≡ x → ((g : ℕ) (y : State) (d : Cursor) → valid (length s) d ≡ true → validIn s (clauseRun n (i + 1) g y s d) ≡ true)
         → validIn s (runOn s c i f z x (λ g y d. clauseRun n (i + 1) g y s d)) ≡ true
     go (refused w) q next = refl
     go (lexeme t e x) q next =
@@ -144,7 +145,7 @@ in-two zero k t i j f z s c g h =
     let e : t ≡ k = omega arith in
     rw (d, e)
 in-two (suc n) k zero i j f z s c g h = absurd (omega arith)
-in-two (suc n) k (suc t) i j f z s c g h = go (readLexeme false s (c .offset)) (λ o y d. in-two n k t (i + 1) j o y s d (omega arith) (omega arith))
+in-two (suc n) k (suc t) i j f z s c g h = go (readLexeme File s (c .offset)) (λ o y d. in-two n k t (i + 1) j o y s d (omega arith) (omega arith))
   where
     pick : (o : ℕ) (y : State) (d : Cursor) (b : Bool) → clauseRun t (i + 1) o y s d ≡ goOn k j s (clauseRun n (i + 1) o y s d)
         → cond b (finished o y d) (clauseRun t (i + 1) o y s d) ≡ goOn k j s (cond b (finished o y d) (clauseRun n (i + 1) o y s d))

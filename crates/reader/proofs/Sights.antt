@@ -8,6 +8,7 @@ use native.Mathlib.Omega.{arith}
 use lib.ListN.{length}
 use Rattle.lexer.specs.Cursor.{moveTo, valid}
 use Rattle.lexer.specs.Token.{Text, Lexeme, lexeme, refused, readLexeme, answered, notValid, nextToken}
+use Rattle.lexer.specs.declared.token.Source.the-variants.{File}
 use Rattle.lexer.specs.declared.cursor.Cursor.{Cursor}
 use Rattle.lexer.specs.declared.token.Token as lexer
 use Rattle.lexer.specs.declared.token.Answer.{Answer}
@@ -24,23 +25,23 @@ use Rattle.reader.specs.Gather.{tokenOf, tokenFrom, sightFrom}
 pub record Known (s : List ℕ) (c : Cursor) (t : lexer.Token) (d : Cursor) : Type 0 where
   pub valid-cursor : valid (length s) c ≡ true
   pub text : Text
-  pub reads : readLexeme false s (c .offset) ≡ lexeme t (d .offset) text
+  pub reads : readLexeme File s (c .offset) ≡ lexeme t (d .offset) text
   pub next : d ≡ moveTo s c (d .offset)
   pub ahead : t .start < d .offset
   pub inside : d .offset ≤ length s
 
 module _ (s : List ℕ) (c : Cursor) (t : lexer.Token) (d : Cursor) where
-  pub known : nextToken s c ≡ Answer.Read t d → Known s c t d
+  pub known : nextToken File s c ≡ Answer.Read t d → Known s c t d
   unfolding answered
-  known r = go (valid (length s) c) (readLexeme false s (c .offset)) refl refl r
+  known r = go (valid (length s) c) (readLexeme File s (c .offset)) refl refl r
     where
-      go : (v : Bool) (l : Lexeme) → valid (length s) c ≡ v → readLexeme false s (c .offset) ≡ l
+      go : (v : Bool) (l : Lexeme) → valid (length s) c ≡ v → readLexeme File s (c .offset) ≡ l
           → cond v (answered s c l) (Answer.Refused notValid c) ≡ Answer.Read t d → Known s c t d
       go true (lexeme u e x) v f g =
           let same : u ≡ t = cc in
           let moved : d ≡ moveTo s c e = cc in
-          let p = token-promises s c t d r in
-          let b = lexeme-bounds false s (c .offset) u e x (p .from .offset) f in
+          let p = token-promises s c File t d r in
+          let b = lexeme-bounds File s (c .offset) u e x (p .from .offset) f in
           let ends : d .offset ≡ e = ap (λ (k : Cursor). k .offset) moved ∙ move-offset s c e (omega (arith, b .behind, b .ahead)) (b .inside) in
           record { valid-cursor = v; text = x; reads = cc (f, same, ends); next = moved ∙ ap (moveTo s c) (sym ends); ahead = p .ahead; inside = p .inside }
       go true (refused w) v f g = let z : _≡_ {A = ℕ} 0 1 = cc in absurd (omega arith)

@@ -13,6 +13,7 @@ use Rattle.lexer.specs.Token.{Lexeme, lexeme, refused, isComma, readLexeme, ans
 use Rattle.lexer.specs.declared.cursor.Cursor.{Cursor}
 use Rattle.lexer.specs.declared.token.Token as lexer
 use Rattle.lexer.specs.declared.token.Answer.{Answer}
+use Rattle.lexer.specs.declared.token.Source.the-variants.{File}
 use Rattle.lexer.proofs.Theorems.{token-promises, comma-starts, integer-within}
 use Rattle.reader.specs.Token.{Integer, Token, terminals}
 use Rattle.reader.specs.Clause.{tokenIn, isEnd, Gathered, whole, stopped, tooMany, with, onward, gather}
@@ -71,11 +72,11 @@ module _ (s : List ℕ) (c : Cursor) (t : lexer.Token) (d : Cursor) (k : Known s
   its-token = tokenIn s t (d .offset) (k .text)
 
   told-known : (ts : List Token) → Told s ts → Told s (tokenIn s t (d .offset) (k .text) ∷ ts)
-  told-known ts r zero l = comma-starts false s (c .offset) t (d .offset) (k .text) (k .reads)
+  told-known ts r zero l = comma-starts File s (c .offset) t (d .offset) (k .text) (k .reads)
   told-known ts r (suc i) l = r i (omega arith)
 
   limited-known : (ts : List Token) → Limited ts → Limited (tokenIn s t (d .offset) (k .text) ∷ ts)
-  limited-known ts r zero = integer-within false s (c .offset) t (d .offset) (k .text) (k .reads)
+  limited-known ts r zero = integer-within File s (c .offset) t (d .offset) (k .text) (k .reads)
   limited-known ts r (suc i) = r i
 
   gather-known : gather (suc n) s c ≡ cond (isEnd (t .kind)) (whole (its-token ∷ []) d) (with its-token (gather n s d))
@@ -92,7 +93,7 @@ module _ (s : List ℕ) (c : Cursor) (t : lexer.Token) (d : Cursor) (k : Known s
   unfolding its-token
   gather-on e = gather-known ∙ rw e
 
-pub gather-stopped : (s : List ℕ) (c : Cursor) (n : ℕ) {w : _} → readLexeme false s (c .offset) ≡ refused w → gather (suc n) s c ≡ stopped w
+pub gather-stopped : (s : List ℕ) (c : Cursor) (n : ℕ) {w : _} → readLexeme File s (c .offset) ≡ refused w → gather (suc n) s c ≡ stopped w
 unfolding gather onward
 gather-stopped s c n e = ap (λ (x : Lexeme). onward s c x (λ e. gather n s e)) e
 
@@ -115,13 +116,13 @@ tail t ts e tooMany h = let z : _≡_ {A = ℕ} 0 1 = cc in absurd (omega arith)
 
 module _ (s : List ℕ) (c : Cursor) (v : valid (length s) c ≡ true) (n : ℕ) (ts : List Token) (e : Cursor)
     (next : (d : Cursor) → valid (length s) d ≡ true → (us : List Token) → gather n s d ≡ whole us e → Few s d n us e) where
-  one-read : (t : lexer.Token) (d : Cursor) → nextToken s c ≡ Answer.Read t d → gather (suc n) s c ≡ whole ts e → Few s c (suc n) ts e
+  one-read : (t : lexer.Token) (d : Cursor) → nextToken File s c ≡ Answer.Read t d → gather (suc n) s c ≡ whole ts e → Few s c (suc n) ts e
   one-read t d r g = go (isEnd (t .kind)) refl
     where
       go : (b : Bool) → isEnd (t .kind) ≡ b → Few s c (suc n) ts e
       go true b =
           let k = known s c t d r in
-          let p = token-promises s c t d r in
+          let p = token-promises s c File t d r in
           let m : tokenIn s t (d .offset) (k .text) ∷ [] ≡ ts = cc (gather-end s c t d k n b) in
           let z : d ≡ e = cc (gather-end s c t d k n b) in
           subst (λ (us : List Token). Few s c (suc n) us e) m
@@ -137,7 +138,7 @@ module _ (s : List ℕ) (c : Cursor) (v : valid (length s) c ≡ true) (n : ℕ)
           }))
       go false b =
           let k = known s c t d r in
-          let p = token-promises s c t d r in
+          let p = token-promises s c File t d r in
           let a = tail (tokenIn s t (d .offset) (k .text)) ts e (gather n s d) (sym (gather-on s c t d k n b) ∙ g) in
           let f = next d (p .next-passes) (a .0) (a .2) in
           subst (λ (us : List Token). Few s c (suc n) us e) (sym (a .1))
@@ -151,7 +152,7 @@ module _ (s : List ℕ) (c : Cursor) (v : valid (length s) c ≡ true) (n : ℕ)
             next-passes = f .next-passes;
           })
 
-  one-lexeme : (x : Lexeme) → readLexeme false s (c .offset) ≡ x → gather (suc n) s c ≡ whole ts e → Few s c (suc n) ts e
+  one-lexeme : (x : Lexeme) → readLexeme File s (c .offset) ≡ x → gather (suc n) s c ≡ whole ts e → Few s c (suc n) ts e
   unfolding answered
   one-lexeme (refused w) q g = let f = gather-stopped s c n q in let z : _≡_ {A = ℕ} 0 1 = cc in absurd (omega arith)
   one-lexeme (lexeme t k x) q g = one-read t (moveTo s c k) (answered-there s c v ∙ ap (answered s c) q) g
@@ -159,4 +160,4 @@ module _ (s : List ℕ) (c : Cursor) (v : valid (length s) c ≡ true) (n : ℕ)
 pub gathered-few : (n : ℕ) (s : List ℕ) (c : Cursor) (ts : List Token) (e : Cursor) → valid (length s) c ≡ true → gather n s c ≡ whole ts e → Few s c n ts e
 unfolding gather
 gathered-few zero s c ts e v g = let z : _≡_ {A = ℕ} 0 1 = cc in absurd (omega arith)
-gathered-few (suc n) s c ts e v g = one-lexeme s c v n ts e (λ d w us h. gathered-few n s d us e w h) (readLexeme false s (c .offset)) refl g
+gathered-few (suc n) s c ts e v g = one-lexeme s c v n ts e (λ d w us h. gathered-few n s d us e w h) (readLexeme File s (c .offset)) refl g

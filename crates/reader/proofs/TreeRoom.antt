@@ -10,6 +10,7 @@ use Rattle.lexer.specs.Cursor.{moveTo, valid, part}
 use Rattle.lexer.specs.Token.{Lexeme, lexeme, refused, readLexeme}
 use Rattle.lexer.specs.declared.cursor.Cursor.{Cursor}
 use Rattle.lexer.specs.declared.refusal.Fault.{Fault}
+use Rattle.lexer.specs.declared.token.Source.the-variants.{File}
 use Rattle.lexer.proofs.Theorems.{is-valid}
 use Rattle.reader.specs.Token.{Token}
 use Rattle.reader.specs.Ops.{Table, operators}
@@ -48,7 +49,7 @@ first-onward s c (lexeme t k x) next ts e h = go (isEnd (t .kind)) h
 first-gathered : (n : ℕ) (s : List ℕ) (c : Cursor) (ts : List Token) (e : Cursor) → gather n s c ≡ whole ts e → First ts (firstOffset s c)
 unfolding gather
 first-gathered zero s c ts e g = let z : _≡_ {A = ℕ} 0 1 = cc in absurd (omega arith)
-first-gathered (suc n) s c ts e g = first-onward s c (readLexeme false s (c .offset)) (λ d. gather n s d) ts e g
+first-gathered (suc n) s c ts e g = first-onward s c (readLexeme File s (c .offset)) (λ d. gather n s d) ts e g
 
 -- tokens that stand one behind the other
 record Standing (n from at : ℕ) : Type 0 where

@@ -7,6 +7,7 @@ use native.Mathlib.Omega.{arith}
 use lib.ListN.{length}
 use Rattle.lexer.specs.Cursor.{valid, moveTo}
 use Rattle.lexer.specs.Token.{Text, Lexeme, lexeme, refused, readLexeme, answered, nextToken}
+use Rattle.lexer.specs.declared.token.Source.the-variants.{File}
 use Rattle.lexer.specs.declared.cursor.Cursor.{Cursor}
 use Rattle.lexer.specs.declared.refusal.Fault.{Fault}
 use Rattle.lexer.specs.declared.token.Token as lexer
@@ -30,21 +31,21 @@ use Rattle.reader.proofs.Size.{count-low, numbered}
 -- ---- what the token call tells
 
 module _ (s : List ℕ) (c : Cursor) (v : valid (length s) c ≡ true) where
-  pub answered-there : nextToken s c ≡ answered s c (readLexeme false s (c .offset))
+  pub answered-there : nextToken File s c ≡ answered s c (readLexeme File s (c .offset))
   answered-there = rw v
 
-  pub told-refused : (w : Fault) (k : Cursor) → nextToken s c ≡ Answer.Refused w k → readLexeme false s (c .offset) ≡ refused w
+  pub told-refused : (w : Fault) (k : Cursor) → nextToken File s c ≡ Answer.Refused w k → readLexeme File s (c .offset) ≡ refused w
   unfolding answered
-  told-refused w k e = go (readLexeme false s (c .offset)) refl (sym answered-there ∙ e)
+  told-refused w k e = go (readLexeme File s (c .offset)) refl (sym answered-there ∙ e)
     where
-      go : (x : Lexeme) → readLexeme false s (c .offset) ≡ x → answered s c x ≡ Answer.Refused w k → readLexeme false s (c .offset) ≡ refused w
+      go : (x : Lexeme) → readLexeme File s (c .offset) ≡ x → answered s c x ≡ Answer.Refused w k → readLexeme File s (c .offset) ≡ refused w
       go (refused u) q f = cc
       go (lexeme u n y) q f = let z : _≡_ {A = ℕ} 0 1 = cc in absurd (omega arith)
 
   -- the next cursor is valid
-  pub next-valid : (t : lexer.Token) (d : Cursor) (e : ℕ) (x : Text) → readLexeme false s (c .offset) ≡ lexeme t e x → d ≡ moveTo s c e → valid (length s) d ≡ true
+  pub next-valid : (t : lexer.Token) (d : Cursor) (e : ℕ) (x : Text) → readLexeme File s (c .offset) ≡ lexeme t e x → d ≡ moveTo s c e → valid (length s) d ≡ true
   unfolding answered
-  next-valid t d e x r m = token-promises s c t d (answered-there ∙ ap (answered s c) r ∙ ap (Answer.Read t) (sym m)) .next-passes
+  next-valid t d e x r m = token-promises s c File t d (answered-there ∙ ap (answered s c) r ∙ ap (Answer.Read t) (sym m)) .next-passes
 
 -- ---- room
 pub length-frames : (st : List ℕ) (d : ℕ) → length (framesOf st d) ≡ d
@@ -104,7 +105,7 @@ takes-one (code.Sight.Stop x) = stop-takes x
 
 -- ---- the run, by the token that was read
 module _ (s : List ℕ) (c : Cursor) (n i f : ℕ) (z : State) where
-  pub run-stop : (w : Fault) → readLexeme false s (c .offset) ≡ refused w → clauseRun (suc n) i f z s c ≡ halted w
+  pub run-stop : (w : Fault) → readLexeme File s (c .offset) ≡ refused w → clauseRun (suc n) i f z s c ≡ halted w
   unfolding clauseRun runOn
   run-stop w e = ap (λ (x : Lexeme). runOn s c i f z x (λ g y k. clauseRun n (i + 1) g y s k)) e
 

@@ -12,6 +12,7 @@ use Rattle.lexer.specs.declared.cursor.Cursor.{Cursor}
 use Rattle.lexer.specs.declared.refusal.Fault.{Fault}
 use Rattle.lexer.specs.declared.refusal.Refusal.the-variants.{NoRoom, TooManyTokens, NoReading}
 use Rattle.lexer.specs.declared.token.Token as lexer
+use Rattle.lexer.specs.declared.token.Source.the-variants.{File}
 use Rattle.reader.specs.Token.{Kind, Name, Variable, String, Number, Open, OpenCT, Close, OpenList, CloseList, OpenCurly, CloseCurly, HeadTailSeparator, DoubleBar, Comma, End, Token}
 use Rattle.reader.specs.Ops.{operators}
 use Rattle.reader.specs.Tree.{Tree, numbers}
@@ -71,7 +72,7 @@ onward s c (lexeme t e x) next =
 -- token by token from c, n of them at most, as the token call reads each
 unfoldable pub gather : ℕ → List ℕ → Cursor → Gathered
 gather zero s c = tooMany
-gather (suc n) s c = onward s c (readLexeme false s (c .offset)) (λ d. gather n s d)
+gather (suc n) s c = onward s c (readLexeme File s (c .offset)) (λ d. gather n s d)
 
 abbrev pub clauseTokens : List ℕ → Cursor → Gathered
 clauseTokens s c = gather mostTokens s c
@@ -82,7 +83,7 @@ startOf (lexeme t e x) = t .start
 startOf (refused w) = 0
 
 abbrev pub firstOffset : List ℕ → Cursor → ℕ
-firstOffset s c = startOf (readLexeme false s (c .offset))
+firstOffset s c = startOf (readLexeme File s (c .offset))
 
 -- 01: what the clause call may answer, and leave in the tree slice d, in the order of the refusals. Two that are permitted coincide (proofs/Theorems)
 pub data Outcome (s : List ℕ) (c : Cursor) (d : List ℕ) : ClauseAnswer → List ℕ → Type 0 where

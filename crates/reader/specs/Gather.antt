@@ -12,6 +12,7 @@ use Rattle.lexer.specs.Cursor.{longest, valid, moveTo}
 use Rattle.lexer.specs.Quoted.{Quoted, decode, bytesOf}
 use Rattle.lexer.specs.Refusal.{fault}
 use Rattle.lexer.specs.Token.{Lexeme, lexeme, refused, readLexeme, nextToken, notValid}
+use Rattle.lexer.specs.declared.token.Source.the-variants.{File}
 use Rattle.lexer.specs.declared.cursor.Cursor.{Cursor}
 use Rattle.lexer.specs.declared.refusal.Fault.{Fault}
 use Rattle.lexer.specs.declared.refusal.Refusal.the-variants.{NoRoom, TooManyTokens, NoReading}
@@ -40,7 +41,7 @@ tokenOf s (lexeme t e x) = tokenIn s t e x
 tokenOf s (refused w) = noToken
 
 abbrev pub tokenFrom : List ℕ → Cursor → Token
-tokenFrom s c = tokenOf s (readLexeme false s (c .offset))
+tokenFrom s c = tokenOf s (readLexeme File s (c .offset))
 
 -- what the machine sees of it
 abbrev pub seen : Token → M.Sight
@@ -51,11 +52,11 @@ sightFrom s c = seen (tokenFrom s c)
 
 -- a token that the token call read at c, with the cursor d behind it
 pub record ReadFrom (s : List ℕ) (c : Cursor) (t : lexer.Token) (d : Cursor) : Type 0 where
-  pub reads : nextToken s c ≡ Answer.Read t d
+  pub reads : nextToken File s c ≡ Answer.Read t d
 
 -- and that is a name
 pub record NameFrom (s : List ℕ) (c : Cursor) (t : lexer.Token) (d : Cursor) : Type 0 where
-  pub reads : nextToken s c ≡ Answer.Read t d
+  pub reads : nextToken File s c ≡ Answer.Read t d
   pub name : t .kind ≡ Name
 
 -- the bytes of the quoted token at an offset (what stands for a refusal is never asked for)
@@ -103,7 +104,7 @@ runOn s c i a z (lexeme t e x) next =
 -- n tokens at most, from the token i on
 unfoldable pub clauseRun : ℕ → ℕ → ℕ → State → List ℕ → Cursor → Result
 clauseRun zero i a z s c = paused a z c
-clauseRun (suc n) i a z s c = runOn s c i a z (readLexeme false s (c .offset)) (λ b y d. clauseRun n (i + 1) b y s d)
+clauseRun (suc n) i a z s c = runOn s c i a z (readLexeme File s (c .offset)) (λ b y d. clauseRun n (i + 1) b y s d)
 
 -- ---- what the code keeps of it
 

@@ -15,6 +15,7 @@ use lexer::Kind;
 use lexer::LARGEST_MAGNITUDE;
 use lexer::QuotedAnswer;
 use lexer::Refusal;
+use lexer::Source;
 use lexer::Token;
 use lexer::Value;
 use lexer::is_valid;
@@ -197,7 +198,7 @@ fn take_tokens(
     let mut index = from;
     let mut latest = taken;
     while index < to {
-        match next_token(text, c) {
+        match next_token(text, c, Source::File) {
             Answer::Refused { fault, cursor: _ } => return Machined::Stopped(fault),
             Answer::Read { token, next } => {
                 latest = last_alive(mode, latest, token.start);

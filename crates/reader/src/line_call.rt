@@ -9,6 +9,7 @@ use lexer::Answer;
 use lexer::Cursor;
 use lexer::Fault;
 use lexer::Refusal;
+use lexer::Source;
 use lexer::next_token;
 ghost use mathlib.Core.Path.{_≡_};
 ghost use Prim.Native.Nat.{_≤_};
@@ -39,7 +40,7 @@ pub fn span_tokens(text: &[u8], cursor: Cursor, starts: &mut [u16], ends: &mut [
     let mut c = cursor;
     let mut i: usize = 0;
     while i < MOST {
-        match next_token(text, c) {
+        match next_token(text, c, Source::File) {
             Answer::Refused {
                 fault: _,
                 cursor: _,

@@ -9,22 +9,23 @@ use lib.ListN.{length, take, drop}
 use Rattle.lexer.specs.Cursor.{startCursor}
 use Rattle.lexer.specs.Token.{nextToken}
 use Rattle.lexer.specs.declared.token.Answer.{Answer}
+use Rattle.lexer.specs.declared.token.Source.the-variants.{File}
 use Rattle.chunks.specs.Answers.{handOf}
 use Rattle.chunks.proofs.hand.call_at_start.Statement.{statement}
 use Rattle.chunks.proofs.hand.call_at_start.Tie as tie
 
 module _ (s : List ℕ) (ended : Bool) (a : Answer) where
-  over : (n : ℕ) → n ≡ length s - 1 → ended ≡ true → a ≡ nextToken (take (n - 0) (drop 0 s)) startCursor → a ≡ nextToken (cond ended (handOf s) s) startCursor
+  over : (n : ℕ) → n ≡ length s - 1 → ended ≡ true → a ≡ nextToken File (take (n - 0) (drop 0 s)) startCursor → a ≡ nextToken File (cond ended (handOf s) s) startCursor
   over n e f g =
       let m : n - 0 ≡ length s - 1 = omega arith in
       let k : take (n - 0) (drop 0 s) ≡ handOf s = ap (λ (i : ℕ). take i s) m in
-      g ∙ ap (λ (x : List ℕ). nextToken x startCursor) (k ∙ chosen)
+      g ∙ ap (λ (x : List ℕ). nextToken File x startCursor) (k ∙ chosen)
     where
       chosen : handOf s ≡ cond ended (handOf s) s
       chosen = cc
 
-  unended : ended ≡ false → a ≡ nextToken s startCursor → a ≡ nextToken (cond ended (handOf s) s) startCursor
-  unended f g = g ∙ ap (λ (x : List ℕ). nextToken x startCursor) chosen
+  unended : ended ≡ false → a ≡ nextToken File s startCursor → a ≡ nextToken File (cond ended (handOf s) s) startCursor
+  unended f g = g ∙ ap (λ (x : List ℕ). nextToken File x startCursor) chosen
     where
       chosen : s ≡ cond ended (handOf s) s
       chosen = cc

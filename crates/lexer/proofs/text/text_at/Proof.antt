@@ -1,7 +1,6 @@
 -- `lexer::text::text_at` meets its contract. Assumes nothing.
 use Prim.Native.Nat.{ℕ}
 use mathlib.Core.Path.{_≡_, sym, _∙_}
-use mathlib.Core.Bool.{false}
 use mathlib.Core.List.{List}
 use borrow.Author.Needs.{needs}
 use lib.ListN.{length}
@@ -14,6 +13,7 @@ use Rattle.lexer.specs.declared.text.TextAnswer.the-variants.{Refused}
 use Rattle.lexer.specs.declared.token.Token.{Token}
 use Rattle.lexer.specs.declared.token.Spelling.{Spelling}
 use Rattle.lexer.specs.declared.token.Found.{Found}
+use Rattle.lexer.specs.declared.token.Source.the-variants.{File}
 use Rattle.lexer.proofs.text.text_at.Statement.{statement}
 use Rattle.lexer.proofs.text.text_at.Tie as tie
 
@@ -24,9 +24,9 @@ module _ (s : List ℕ) (c : Cursor) where
   told d (refused v) w f = cc
 
   -- the ways out: r is what was found
-  module _ (r : Found) (f : r ≡ found s c (readLexeme false s (c .offset))) where
+  module _ (r : Found) (f : r ≡ found s c (readLexeme File s (c .offset))) where
     refuse : (d : List ℕ) (w : Fault) → r ≡ Found.Refused w → leaves (Refused w c) d ≡ tokenText s c d
-    refuse d w h = told d (readLexeme false s (c .offset)) w (sym f ∙ h)
+    refuse d w h = told d (readLexeme File s (c .offset)) w (sym f ∙ h)
 
     reads : (o : ℕ) (t : Token) (l : ℕ) (x : Spelling) (k : ℕ) → Valid (length s) c → r ≡ Found.Whole o t l x k
         → Reads s c t x (record { offset = o; line = l; column = k })

@@ -1,7 +1,6 @@
 -- `lexer::token::answer_at` meets its contract. Assumes nothing.
 use Prim.Native.Nat.{ℕ}
 use mathlib.Core.Path.{_≡_, refl, sym, _∙_, ap}
-use mathlib.Core.Bool.{Bool}
 use mathlib.Core.List.{List}
 use borrow.Author.Needs.{needs}
 use Rattle.lexer.specs.Token.{Lexeme, lexeme, refused, readLexeme, answered, found}
@@ -11,6 +10,7 @@ use Rattle.lexer.specs.declared.token.Token.{Token}
 use Rattle.lexer.specs.declared.token.Spelling.{Spelling}
 use Rattle.lexer.specs.declared.token.Found.{Found}
 use Rattle.lexer.specs.declared.token.Answer.{Answer}
+use Rattle.lexer.specs.declared.token.Source.{Source}
 use Rattle.lexer.proofs.token.answer_at.Statement.{statement}
 use Rattle.lexer.proofs.token.answer_at.Tie as tie
 
@@ -26,15 +26,15 @@ module _ (s : List ℕ) (c : Cursor) where
   told-found (lexeme t e y) = refl
   told-found (refused w) = refl
 
-  module _ (field : Bool) (r : Found) (f : r ≡ found s c (readLexeme field s (c .offset))) where
-    answers : (z : Found) → r ≡ z → told c z ≡ answered s c (readLexeme field s (c .offset))
-    answers z g = ap (told c) (sym g ∙ f) ∙ told-found (readLexeme field s (c .offset))
+  module _ (origin : Source) (r : Found) (f : r ≡ found s c (readLexeme origin s (c .offset))) where
+    answers : (z : Found) → r ≡ z → told c z ≡ answered s c (readLexeme origin s (c .offset))
+    answers z g = ap (told c) (sym g ∙ f) ∙ told-found (readLexeme origin s (c .offset))
 
-    no-token : (w : Fault) → r ≡ Found.Refused w → Answer.Refused w c ≡ answered s c (readLexeme field s (c .offset))
+    no-token : (w : Fault) → r ≡ Found.Refused w → Answer.Refused w c ≡ answered s c (readLexeme origin s (c .offset))
     no-token w g = answers (Found.Refused w) g
 
     read : (o : ℕ) (t : Token) (l : ℕ) (y : Spelling) (k : ℕ) → r ≡ Found.Whole o t l y k
-        → Answer.Read t (record { offset = o; line = l; column = k }) ≡ answered s c (readLexeme field s (c .offset))
+        → Answer.Read t (record { offset = o; line = l; column = k }) ≡ answered s c (readLexeme origin s (c .offset))
     read o t l y k g = answers (Found.Whole o t l y k) g
 
 ruleset ways = (no-token, read, needs)

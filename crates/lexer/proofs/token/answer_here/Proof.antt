@@ -1,7 +1,7 @@
 -- `lexer::token::answer_here` meets its contract. Assumes nothing.
 use Prim.Native.Nat.{ℕ}
 use mathlib.Core.Path.{_≡_, refl, sym, _∙_, ap}
-use mathlib.Core.Bool.{Bool, false}
+use mathlib.Core.Bool.{Bool}
 use mathlib.Core.List.{List}
 use borrow.Author.Needs.{needs}
 use Rattle.lexer.specs.Look.{lookahead}
@@ -12,6 +12,7 @@ use Rattle.lexer.specs.declared.token.Token.{Token}
 use Rattle.lexer.specs.declared.token.Spelling.{Spelling}
 use Rattle.lexer.specs.declared.token.Found.{Found}
 use Rattle.lexer.specs.declared.token.Answer.{Answer}
+use Rattle.lexer.specs.declared.token.Source.the-variants.{File}
 use Rattle.lexer.proofs.token.answer_here.Statement.{statement}
 use Rattle.lexer.proofs.token.answer_here.Tie as tie
 
@@ -27,15 +28,15 @@ module _ (s : List ℕ) (c : Cursor) where
   told-found (lexeme t e y) = refl
   told-found (refused w) = refl
 
-  module _ (layout : Bool) (r : Found) (f : r ≡ found s c (lexemeTo false s (c .offset) layout (lookahead s (c .offset)))) where
-    answers : (z : Found) → r ≡ z → told c z ≡ answered s c (lexemeTo false s (c .offset) layout (lookahead s (c .offset)))
-    answers z g = ap (told c) (sym g ∙ f) ∙ told-found (lexemeTo false s (c .offset) layout (lookahead s (c .offset)))
+  module _ (layout : Bool) (r : Found) (f : r ≡ found s c (lexemeTo File s (c .offset) layout (lookahead s (c .offset)))) where
+    answers : (z : Found) → r ≡ z → told c z ≡ answered s c (lexemeTo File s (c .offset) layout (lookahead s (c .offset)))
+    answers z g = ap (told c) (sym g ∙ f) ∙ told-found (lexemeTo File s (c .offset) layout (lookahead s (c .offset)))
 
-    no-token : (w : Fault) → r ≡ Found.Refused w → Answer.Refused w c ≡ answered s c (lexemeTo false s (c .offset) layout (lookahead s (c .offset)))
+    no-token : (w : Fault) → r ≡ Found.Refused w → Answer.Refused w c ≡ answered s c (lexemeTo File s (c .offset) layout (lookahead s (c .offset)))
     no-token w g = answers (Found.Refused w) g
 
     read : (o : ℕ) (t : Token) (l : ℕ) (y : Spelling) (k : ℕ) → r ≡ Found.Whole o t l y k
-        → Answer.Read t (record { offset = o; line = l; column = k }) ≡ answered s c (lexemeTo false s (c .offset) layout (lookahead s (c .offset)))
+        → Answer.Read t (record { offset = o; line = l; column = k }) ≡ answered s c (lexemeTo File s (c .offset) layout (lookahead s (c .offset)))
     read o t l y k g = answers (Found.Whole o t l y k) g
 
 ruleset ways = (no-token, read, needs)

@@ -6,7 +6,7 @@ use mathlib.Core.List.{List}
 use borrow.Author.Needs.{needs}
 use lib.ListN.{length}
 use Rattle.lexer.specs.Cursor.{moveTo}
-use Rattle.lexer.specs.Token.{plain, textOf, kept, token, plainLexeme, spelledTo, found, At, Begins, Passing}
+use Rattle.lexer.specs.Token.{plainToken, textOf, kept, token, plainLexeme, spelledTo, found, At, Begins, Passing}
 use Rattle.lexer.specs.declared.refusal.Fault.{Fault}
 use Rattle.lexer.specs.declared.cursor.Cursor.{Cursor}
 use Rattle.lexer.specs.declared.kind.Kind.{Kind}
@@ -14,6 +14,7 @@ use Rattle.lexer.specs.declared.kind.Value.{Value}
 use Rattle.lexer.specs.declared.kind.Plain.{Plain}
 use Rattle.lexer.specs.declared.token.Spelling.{Spelling}
 use Rattle.lexer.specs.declared.token.Found.{Found}
+use Rattle.lexer.specs.declared.token.Source.{Source}
 use Rattle.lexer.proofs.Looks.{look-byte}
 use Rattle.lexer.proofs.Promises.{plain-token-ends}
 use Rattle.lexer.proofs.token.plain_found.Statement.{statement}
@@ -23,19 +24,19 @@ module _ (s : List ℕ) (c : Cursor) (b : ℕ) where
   at-byte : Begins s c b → At s (c .offset) b
   at-byte w = record { there = w .there; short = w .valid .short }
 
-  module _ (t field : Bool) (p : Plain) (e : p ≡ plain field s (c .offset) t b) where
-    refused : (w : Fault) → p ≡ Plain.Refused w → Found.Refused w ≡ found s c (plainLexeme (c .offset) (plain field s (c .offset) t b))
+  module _ (t : Bool) (origin : Source) (p : Plain) (e : p ≡ plainToken origin s (c .offset) t b) where
+    refused : (w : Fault) → p ≡ Plain.Refused w → Found.Refused w ≡ found s c (plainLexeme (c .offset) (plainToken origin s (c .offset) t b))
     unfolding plainLexeme found
     refused w f = cc
 
     module _ (k : Kind) (v : Value) (end : ℕ) (f : p ≡ Plain.Whole k v end) where
       passing : Begins s c b → Passing s c end
       passing w =
-          let q = plain-token-ends s (c .offset) b (look-byte s (c .offset) b (w .there)) field t p k v end e f in
+          let q = plain-token-ends s (c .offset) b (look-byte s (c .offset) b (w .there)) origin t p k v end e f in
           record { valid = w .valid; ahead = q .ahead; inside = q .inside; plain = q .plain }
 
       whole : (x : Spelling) (d : Cursor) (r : Found) → x ≡ kept (textOf k) → d ≡ moveTo s c end → r ≡ spelledTo (token k v (c .offset)) x d
-          → r ≡ found s c (plainLexeme (c .offset) (plain field s (c .offset) t b))
+          → r ≡ found s c (plainLexeme (c .offset) (plainToken origin s (c .offset) t b))
       unfolding plainLexeme found
       whole x d r g h i = cc
 

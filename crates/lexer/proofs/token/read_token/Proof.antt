@@ -1,7 +1,6 @@
 -- `lexer::token::read_token` meets its contract. Assumes nothing.
 use Prim.Native.Nat.{ℕ, _<_, _≤_}
 use mathlib.Core.Path.{_≡_, refl, sym, _∙_, ap}
-use mathlib.Core.Bool.{Bool}
 use mathlib.Core.List.{List}
 use native.Mathlib.Omega.{arith}
 use borrow.Author.Needs.{needs}
@@ -18,6 +17,7 @@ use Rattle.lexer.specs.declared.cursor.Scan.{Scan}
 use Rattle.lexer.specs.declared.cursor.Scan.the-variants.{Stop}
 use Rattle.lexer.specs.declared.token.Token.{Token}
 use Rattle.lexer.specs.declared.token.Found.{Found}
+use Rattle.lexer.specs.declared.token.Source.{Source}
 use Rattle.lexer.proofs.Cursors.{move-by, move-offset, move-valid}
 use Rattle.lexer.proofs.Layouts.{Before, layout-ends}
 use Rattle.lexer.proofs.Promises.{LexemeEnds, token-there}
@@ -33,11 +33,11 @@ record Layout (s : List ℕ) (c d : Cursor) : Type 0 where
   inside : at < length s
 
 module _ (s : List ℕ) (c : Cursor) (v : Valid (length s) c) (l : Moved) (e : l ≡ moved s c (layoutEnd s (c .offset))) where
-  no-token : (field : Bool) (w : Fault) → l ≡ Moved.Refused w → Found.Refused w ≡ found s c (readLexeme field s (c .offset))
+  no-token : (origin : Source) (w : Fault) → l ≡ Moved.Refused w → Found.Refused w ≡ found s c (readLexeme origin s (c .offset))
   unfolding afterLayout found moved
-  no-token field w f = go (layoutEnd s (c .offset)) e
+  no-token origin w f = go (layoutEnd s (c .offset)) e
     where
-      go : (r : Scan) → l ≡ moved s c r → Found.Refused w ≡ found s c (afterLayout field s (c .offset) r)
+      go : (r : Scan) → l ≡ moved s c r → Found.Refused w ≡ found s c (afterLayout origin s (c .offset) r)
       go (Stop x) g = cc
       go (Scan.Refused x) g = cc
 
@@ -66,16 +66,16 @@ module _ (s : List ℕ) (c : Cursor) (v : Valid (length s) c) (l : Moved) (e : l
           let a = move-by s c n (omega (arith, t .behind, b .behind, b .ahead)) (b .inside) (t .at) (t .behind) (omega (arith, b .behind, b .ahead)) in
           ap (spelledTo u (kept y)) (ap (λ (x : Cursor). moveTo s x n) (t .there) ∙ sym a)
 
-    read : (field : Bool) (z : Found) → z ≡ found s d (lexemeTo field s (d .offset) (ltb (c .offset) (d .offset)) (lookahead s (d .offset)))
-        → z ≡ found s c (readLexeme field s (c .offset))
+    read : (origin : Source) (z : Found) → z ≡ found s d (lexemeTo origin s (d .offset) (ltb (c .offset) (d .offset)) (lookahead s (d .offset)))
+        → z ≡ found s c (readLexeme origin s (c .offset))
     unfolding afterLayout
-    read field z g =
+    read origin z g =
         let t = told in
         let o = at-offset t in
         let layout = ltb (c .offset) (t .at) in
-        let p = ap (λ (n : ℕ). found s d (lexemeTo field s n (ltb (c .offset) n) (lookahead s n))) o in
-        let q = carried t (lexemeTo field s (t .at) layout (lookahead s (t .at))) (λ u n y h. token-there field layout s (t .at) u n y h) in
-        let m = ap (λ (r : Scan). found s c (afterLayout field s (c .offset) r)) (t .ends) in
+        let p = ap (λ (n : ℕ). found s d (lexemeTo origin s n (ltb (c .offset) n) (lookahead s n))) o in
+        let q = carried t (lexemeTo origin s (t .at) layout (lookahead s (t .at))) (λ u n y h. token-there origin layout s (t .at) u n y h) in
+        let m = ap (λ (r : Scan). found s c (afterLayout origin s (c .offset) r)) (t .ends) in
         g ∙ p ∙ q ∙ sym m
 
 ruleset ways = (no-token, valid-there, read, needs)

@@ -8,37 +8,41 @@ use lib.ListN.{length}
 use Rattle.lexer.specs.Chars.{is, quoteChar}
 use Rattle.lexer.specs.Cursor.{Valid}
 use Rattle.lexer.specs.Look.{lookahead}
-use Rattle.lexer.specs.Token.{plain, plainLexeme, quotedLexeme, lexemeTo, found, Begins}
+use Rattle.lexer.specs.Token.{plainToken, plainLexeme, quotedLexeme, lexemeTo, found, Begins, Quotes}
 use Rattle.lexer.specs.declared.refusal.Fault.{Fault}
 use Rattle.lexer.specs.declared.chars.Look.{Look}
 use Rattle.lexer.specs.declared.cursor.Cursor.{Cursor}
 use Rattle.lexer.specs.declared.token.Found.{Found}
+use Rattle.lexer.specs.declared.token.Source.{Source}
 use Rattle.lexer.proofs.token.token_at.Statement.{statement}
 use Rattle.lexer.proofs.token.token_at.Tie as tie
 
 -- what stands at the cursor
-abbrev There : Bool → List ℕ → Cursor → Bool → Found
-There field s c t = found s c (lexemeTo field s (c .offset) t (lookahead s (c .offset)))
+abbrev There : Source → List ℕ → Cursor → Bool → Found
+There origin s c t = found s c (lexemeTo origin s (c .offset) t (lookahead s (c .offset)))
 
 module _ (s : List ℕ) (c : Cursor) (r : Look) (e : r ≡ lookahead s (c .offset)) where
-  refused : (field t : Bool) (w : Fault) → r ≡ Look.Refused w → Found.Refused w ≡ There field s c t
+  refused : (origin : Source) (t : Bool) (w : Fault) → r ≡ Look.Refused w → Found.Refused w ≡ There origin s c t
   unfolding lexemeTo found
-  refused field t w f = cc
+  refused origin t w f = cc
 
   module _ (b : ℕ) (f : r ≡ Look.Byte b) where
     begins : Valid (length s) c → Begins s c b
     begins v = record { valid = v; there = sym e ∙ f }
 
-    module _ (field t q : Bool) (g : q ≡ is quoteChar b) (z : Found) where
-      quoted : q ≡ true → z ≡ found s c (quotedLexeme field s (c .offset) b) → z ≡ There field s c t
+    quotes : (q : Bool) → q ≡ is quoteChar b → q ≡ true → Valid (length s) c → Quotes s c b
+    quotes q g h v = record { begins = begins v; quote = sym g ∙ h }
+
+    module _ (origin : Source) (t q : Bool) (g : q ≡ is quoteChar b) (z : Found) where
+      quoted : q ≡ true → z ≡ found s c (quotedLexeme s (c .offset) b) → z ≡ There origin s c t
       unfolding lexemeTo
       quoted h i = cc
 
-      not-quoted : q ≡ false → z ≡ found s c (plainLexeme (c .offset) (plain field s (c .offset) t b)) → z ≡ There field s c t
+      not-quoted : q ≡ false → z ≡ found s c (plainLexeme (c .offset) (plainToken origin s (c .offset) t b)) → z ≡ There origin s c t
       unfolding lexemeTo
       not-quoted h i = cc
 
-ruleset ways = (refused, begins, quoted, not-quoted, needs)
+ruleset ways = (refused, begins, quotes, quoted, not-quoted, needs)
 
 -- answers
 lookahead-char-requires : tie.Need-lookahead-char-requires

@@ -11,6 +11,7 @@ use Rattle.lexer.specs.Token.{lexemeTo, answered, notValid, tokenHere}
 use Rattle.lexer.specs.declared.refusal.Fault.{Fault}
 use Rattle.lexer.specs.declared.cursor.Cursor.{Cursor}
 use Rattle.lexer.specs.declared.token.Answer.{Answer}
+use Rattle.lexer.specs.declared.token.Source.the-variants.{File}
 use Rattle.lexer.proofs.Cursors.{is-valid}
 use Rattle.lexer.proofs.token.token_here.Statement.{statement}
 use Rattle.lexer.proofs.token.token_here.Tie as tie
@@ -19,7 +20,7 @@ begins : (n : ℕ) (c : Cursor) (t : Bool) → t ≡ valid n c → t ≡ true �
 begins n c t e f = is-valid n c (sym e ∙ f)
 
 module _ (s : List ℕ) (c : Cursor) (layout t : Bool) (e : t ≡ valid (length s) c) where
-  read : (r : Answer) → t ≡ true → r ≡ answered s c (lexemeTo false s (c .offset) layout (lookahead s (c .offset))) → r ≡ tokenHere layout s c
+  read : (r : Answer) → t ≡ true → r ≡ answered s c (lexemeTo File s (c .offset) layout (lookahead s (c .offset))) → r ≡ tokenHere layout s c
   read r f g = cc
 
   refused : (w : Fault) → t ≡ false → w ≡ notValid → Answer.Refused w c ≡ tokenHere layout s c

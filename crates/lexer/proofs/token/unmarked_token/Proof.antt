@@ -1,49 +1,70 @@
 -- `lexer::token::unmarked_token` meets its contract. Assumes nothing.
-use Prim.Native.Nat.{ℕ}
-use mathlib.Core.Path.{_≡_, sym, _∙_}
-use mathlib.Core.Bool.{Bool, true, false}
+use Prim.Native.Nat.{ℕ, _<_}
+use mathlib.Core.Path.{_≡_, refl, sym, _∙_}
+use mathlib.Core.Bool.{Bool, true, false, cond}
 use mathlib.Core.List.{List}
 use borrow.Author.Needs.{needs}
-use borrow.Author.Tests.{eqb-true}
-use Rattle.lexer.specs.Chars.{classOf, is, within, smallLetter, underscoreChar, decimalDigit}
+use borrow.Author.Tests.{eqb-true, ne-eqb}
+use lib.ListN.{length}
+use Rattle.lexer.specs.Chars.{classOf, is, within, smallLetter, capitalLetter, underscoreChar, decimalDigit, soloChar, point, bar}
 use Rattle.lexer.specs.Look.{lookahead}
 use Rattle.lexer.specs.Name.{symbolName, nameToken}
 use Rattle.lexer.specs.Number.{numberToken}
-use Rattle.lexer.specs.Token.{numbered, plainToken, plainNumber, plain, AtDigit, Unmarked, Symbolic}
+use Rattle.lexer.specs.Token.{barToken, endToken, soloTo, numbered, sourced, plainToken, AtDigit, Unmarked}
 use Rattle.lexer.specs.declared.chars.Look.{Look}
 use Rattle.lexer.specs.declared.kind.Plain.{Plain}
+use Rattle.lexer.specs.declared.token.Source.{Source}
+use Rattle.lexer.proofs.Looks.{look-byte}
 use Rattle.lexer.proofs.Promises.{class-digit}
 use Rattle.lexer.proofs.Sets.{apart}
 use Rattle.lexer.proofs.token.unmarked_token.Statement.{statement}
 use Rattle.lexer.proofs.token.unmarked_token.Tie as tie
 
--- the ways out, over plain values: d says whether the first byte b is a digit
+either : (t : Bool) (p : Plain) → cond t p p ≡ p
+either true p = refl
+either false p = refl
+
+-- the ways out, over plain values: the tests say of what class the first byte b is (d, whether it is a digit), p is what was read
 module _ (s : List ℕ) (at b : ℕ) (w : Unmarked s at b) where
   there : lookahead s at ≡ Look.Byte b
   there = w .at-byte .there
+
+  inside : at < length s
+  inside = look-byte s at b there .inside
 
   module _ (d : Bool) (g : d ≡ is decimalDigit b) where
     at-digit : d ≡ true → AtDigit s at
     at-digit h = record { digit = b; at-digit = w .at-byte; decimal = class-digit b (eqb-true (classOf b) decimalDigit (sym g ∙ h)) }
 
-    number : (field : Bool) (p : Plain) → d ≡ true → p ≡ numbered field at (numberToken s at) → p ≡ plain field s at false b
-    unfolding plainToken plainNumber
-    number true p h i = cc
-    number false p h i = cc
+    module _ (origin : Source) (p : Plain) where
+      number : d ≡ true → p ≡ numbered at (sourced origin (numberToken s at)) → p ≡ plainToken origin s at false b
+      unfolding plainToken
+      number h i = cc
 
-    module _ (h : d ≡ false) where
-      symbolic : Symbolic s at b
-      symbolic = record { at-unmarked = w; no-digit = sym g ∙ h }
+      end-mark : b ≡ point → p ≡ endToken s at → p ≡ plainToken origin s at false b
+      unfolding plainToken classOf
+      end-mark i j = cc
 
-      module _ (field : Bool) (p : Plain) where
-        a-name : field ≡ true → p ≡ symbolName s at b → p ≡ plain field s at false b
-        unfolding plainNumber nameToken
-        a-name i j = cc (apart (within smallLetter underscoreChar) (classOf b) smallLetter (w .no-letter))
+      a-bar : b ≡ bar → p ≡ barToken s at → p ≡ plainToken origin s at false b
+      unfolding plainToken soloTo classOf
+      a-bar j l = cc (w .unmarked)
 
-        token : field ≡ false → p ≡ plainToken s at false b → p ≡ plain field s at false b
-        token i j = cc
+      -- solo or not, it is read as a name: its class is none of the first three
+      a-name : d ≡ false → (b ≡ point → ⊥) → (b ≡ bar → ⊥) → p ≡ symbolName s at b → p ≡ plainToken origin s at false b
+      unfolding plainToken soloTo nameToken
+      a-name h i j l =
+          let no = apart (within smallLetter underscoreChar) (classOf b) in
+          cc (
+            w .unmarked,
+            no smallLetter (w .no-letter),
+            no capitalLetter (w .no-letter),
+            no underscoreChar (w .no-letter),
+            ne-eqb b point i,
+            ne-eqb b bar j,
+            either (is soloChar b) p,
+          )
 
-ruleset ways = (there, at-digit, number, symbolic, a-name, token, needs)
+ruleset ways = (there, inside, at-digit, number, end-mark, a-bar, a-name, needs)
 
 -- answers
 is-digit-requires : tie.Need-is-digit-requires
@@ -52,11 +73,14 @@ is-digit-requires c κs = search ways
 whole-number-requires : tie.Need-whole-number-requires
 whole-number-requires c κs = search ways
 
+end-token-requires : tie.Need-end-token-requires
+end-token-requires c κs = search ways
+
+bar-token-requires : tie.Need-bar-token-requires
+bar-token-requires c κs = search ways
+
 symbol-name-requires : tie.Need-symbol-name-requires
 symbol-name-requires c κs = search ways
-
-plain-token-requires : tie.Need-plain-token-requires
-plain-token-requires c κs = search ways
 
 returns : tie.Need-returns
 returns c = search ways
@@ -67,14 +91,19 @@ returns-2 c = search ways
 returns-3 : tie.Need-returns-3
 returns-3 c = search ways
 
+returns-4 : tie.Need-returns-4
+returns-4 c = search ways
+
 pub unmarked-token-spec : {M : Type 1} → statement M
 unmarked-token-spec =
     tie.close
     (tie.spec
     is-digit-requires
     whole-number-requires
+    end-token-requires
+    bar-token-requires
     symbol-name-requires
-    plain-token-requires
     returns
     returns-2
-    returns-3)
+    returns-3
+    returns-4)

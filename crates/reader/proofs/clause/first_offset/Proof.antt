@@ -10,6 +10,7 @@ use Rattle.lexer.specs.Cursor.{moveTo, valid}
 use Rattle.lexer.specs.Token.{Lexeme, lexeme, refused, readLexeme}
 use Rattle.lexer.specs.declared.cursor.Cursor.{Cursor}
 use Rattle.lexer.specs.declared.refusal.Fault.{Fault}
+use Rattle.lexer.specs.declared.token.Source.the-variants.{File}
 use Rattle.reader.specs.Machine.{State, start, isDead}
 use Rattle.reader.specs.Clause.{isEnd, startOf, firstOffset}
 use Rattle.reader.specs.Gather.{Result, finished, halted, paused, runOn, clauseRun, resultOf, Beginning}
@@ -29,7 +30,7 @@ taken (paused a z d) = a
 
 one-token : (s : List ℕ) (c : Cursor) → taken (clauseRun 1 0 0 start s c) ≡ firstOffset s c
 unfolding clauseRun taken runOn startOf isDead
-one-token s c = go (readLexeme false s (c .offset))
+one-token s c = go (readLexeme File s (c .offset))
   where
     pick : (b : Bool) (a : ℕ) (z : State) (d : Cursor) → taken (cond b (finished a z d) (paused a z d)) ≡ a
     pick true a z d = refl

@@ -1,7 +1,6 @@
 -- `reader::clause::name_roles` meets its contract: a name is quoted exactly if a single quote begins it. Assumes nothing.
 use Prim.Native.Nat.{ℕ, _-_, _<_}
 use mathlib.Core.Path.{_≡_, sym, _∙_, ap}
-use mathlib.Core.Bool.{false}
 use mathlib.Core.List.{List}
 use native.Mathlib.Omega.{arith}
 use borrow.Author.Needs.{needs}
@@ -11,6 +10,7 @@ use Rattle.lexer.specs.Quoted.{bytesOf}
 use Rattle.lexer.specs.Token.{Text, lexeme, readLexeme}
 use Rattle.lexer.specs.declared.cursor.Cursor.{Cursor}
 use Rattle.lexer.specs.declared.token.Token as lexer
+use Rattle.lexer.specs.declared.token.Source.the-variants.{File}
 use Rattle.lexer.proofs.Theorems.{NameText, quoted, unquoted, name-spelt, decoded-spelt, is-valid}
 use Rattle.reader.specs.Ops.{operators}
 use Rattle.reader.specs.Roles.{rolesOf}
@@ -27,7 +27,7 @@ module _ (s : List ℕ) (c : Cursor) (t : lexer.Token) (d : Cursor) (r : NameFro
   it = known s c t d (r .reads)
 
   spelt : NameText (getD s (t .start) 0) (it .text)
-  spelt = name-spelt false s (c .offset) t (d .offset) (it .text) (it .reads) (r .name)
+  spelt = name-spelt File s (c .offset) t (d .offset) (it .text) (it .reads) (r .name)
 
   inside : t .start < length s
   inside = omega (arith, it .ahead, it .inside)
@@ -37,17 +37,17 @@ module _ (s : List ℕ) (c : Cursor) (t : lexer.Token) (d : Cursor) (r : NameFro
     is-quoted : QuotedAt s (t .start)
     is-quoted = go spelt (it .reads)
       where
-        go : {x : Text} → NameText (getD s (t .start) 0) x → readLexeme false s (c .offset) ≡ lexeme t (d .offset) x → QuotedAt s (t .start)
+        go : {x : Text} → NameText (getD s (t .start) 0) x → readLexeme File s (c .offset) ≡ lexeme t (d .offset) x → QuotedAt s (t .start)
         go (quoted bs e) f =
-            record { inside = inside; quote = q; short = is-valid (length s) c (it .valid-cursor) .short; bytes = bs; end = d .offset; decodes = decoded-spelt false s (c .offset) t (d .offset) bs f }
+            record { inside = inside; quote = q; short = is-valid (length s) c (it .valid-cursor) .short; bytes = bs; end = d .offset; decodes = decoded-spelt File s (c .offset) t (d .offset) bs f }
         go (unquoted n) f = absurd (n q)
 
     its-text : quotedBytes s (t .start) ≡ tokenFrom s c .text
     unfolding tokenOf textIn bytesOf
     its-text = go spelt (it .reads)
       where
-        go : {x : Text} → NameText (getD s (t .start) 0) x → readLexeme false s (c .offset) ≡ lexeme t (d .offset) x → quotedBytes s (t .start) ≡ tokenFrom s c .text
-        go (quoted bs e) f = ap bytesOf (decoded-spelt false s (c .offset) t (d .offset) bs f) ∙ sym (ap (λ l. tokenOf s l .text) f)
+        go : {x : Text} → NameText (getD s (t .start) 0) x → readLexeme File s (c .offset) ≡ lexeme t (d .offset) x → quotedBytes s (t .start) ≡ tokenFrom s c .text
+        go (quoted bs e) f = ap bytesOf (decoded-spelt File s (c .offset) t (d .offset) bs f) ∙ sym (ap (λ l. tokenOf s l .text) f)
         go (unquoted n) f = absurd (n q)
 
     its-roles : (x : Roles) → x ≡ rolesOf operators (quotedBytes s (t .start)) → x ≡ rolesOf operators (tokenFrom s c .text)

@@ -8,6 +8,7 @@ use native.Mathlib.Omega.{arith}
 use borrow.Author.Needs.{needs}
 use lib.ListN.{length}
 use Rattle.lexer.specs.Token.{nextToken}
+use Rattle.lexer.specs.declared.token.Source.the-variants.{File}
 use Rattle.lexer.specs.declared.cursor.Cursor.{Cursor}
 use Rattle.lexer.specs.declared.refusal.Fault.{Fault}
 use Rattle.lexer.specs.declared.token.Token as lexer
@@ -72,7 +73,7 @@ module _ (s : List ℕ) (c₀ : Cursor) (from to f₀ : ℕ) (m₀ : Mode) (st�
         let o = takes-one k in
         ready st ns (to + 1) (omega (arith, v .taking .frames)) (omega (arith, v .taking .nodes)) (omega arith) m k o (omega arith) (omega arith)
 
-    module _ (a : Answer) (e : a ≡ nextToken s c) where
+    module _ (a : Answer) (e : a ≡ nextToken File s c) where
       stops : (x : Fault) (k : Cursor) → a ≡ Answer.Refused x k → resultOf (Machined.Stopped x) st ns ≡ clauseRun (to - from) from f₀ (stateOf m₀ st₀ ns₀) s c₀
       unfolding resultOf
       stops x k g =

@@ -10,6 +10,7 @@ use lib.ListN.{length, set, take, length-set, length-append}
 use lib.Seq.{take-suc-set}
 use Rattle.lexer.specs.Cursor.{valid, longest}
 use Rattle.lexer.specs.Token.{nextToken}
+use Rattle.lexer.specs.declared.token.Source.the-variants.{File}
 use Rattle.lexer.specs.declared.cursor.Cursor.{Cursor}
 use Rattle.lexer.specs.declared.refusal.Fault.{Fault}
 use Rattle.lexer.specs.declared.token.Token as lexer
@@ -79,7 +80,7 @@ module _ (s : List ℕ) (c₀ c : Cursor) (i : ℕ) (starts ends : List ℕ) (v 
     less : mostTokens - (i + 1) < mostTokens - i
     less = omega arith
 
-    module _ (a : Answer) (e : a ≡ nextToken s c) where
+    module _ (a : Answer) (e : a ≡ nextToken File s c) where
       halted : (w : Fault) (k : Cursor) → a ≡ Answer.Refused w k → Spans s c₀ starts ends
       halted w k f =
           let r = told-refused s c (v .spanning .valid-cursor) w k (sym e ∙ f) in
@@ -88,10 +89,10 @@ module _ (s : List ℕ) (c₀ c : Cursor) (i : ℕ) (starts ends : List ℕ) (v 
 
       module _ (t : lexer.Token) (d : Cursor) (f : a ≡ Answer.Read t d) where
         narrow-start : t .start ≤ longest
-        narrow-start = let p = token-promises s c t d (sym e ∙ f) in omega (arith, p .ahead, p .inside, p .from .short)
+        narrow-start = let p = token-promises s c File t d (sym e ∙ f) in omega (arith, p .ahead, p .inside, p .from .short)
 
         narrow-end : d .offset ≤ longest
-        narrow-end = let p = token-promises s c t d (sym e ∙ f) in omega (arith, p .inside, p .from .short)
+        narrow-end = let p = token-promises s c File t d (sym e ∙ f) in omega (arith, p .inside, p .from .short)
 
         it : Token
         it = tokenIn s t (d .offset) (known s c t d (sym e ∙ f) .text)
@@ -131,7 +132,7 @@ module _ (s : List ℕ) (c₀ c : Cursor) (i : ℕ) (starts ends : List ℕ) (v 
                   high = omega arith;
                   spanning =
                       record {
-                        valid-cursor = token-promises s c t d (sym e ∙ f) .next-passes;
+                        valid-cursor = token-promises s c File t d (sym e ∙ f) .next-passes;
                         started = length-set starts i x ∙ v .spanning .started;
                         ended = length-set ends i y ∙ v .spanning .ended;
                       };

@@ -1,4 +1,4 @@
--- `lexer::token::answer_in` meets its contract. Assumes nothing.
+-- `lexer::token::next_token` meets its contract. Assumes nothing.
 use Prim.Native.Nat.{ℕ}
 use mathlib.Core.Path.{_≡_, sym, _∙_}
 use mathlib.Core.Bool.{Bool, true, false}
@@ -6,22 +6,23 @@ use mathlib.Core.List.{List}
 use borrow.Author.Needs.{needs}
 use lib.ListN.{length}
 use Rattle.lexer.specs.Cursor.{valid, Valid}
-use Rattle.lexer.specs.Token.{readLexeme, answered, notValid, call}
+use Rattle.lexer.specs.Token.{readLexeme, answered, notValid, nextToken}
 use Rattle.lexer.specs.declared.refusal.Fault.{Fault}
 use Rattle.lexer.specs.declared.cursor.Cursor.{Cursor}
 use Rattle.lexer.specs.declared.token.Answer.{Answer}
+use Rattle.lexer.specs.declared.token.Source.{Source}
 use Rattle.lexer.proofs.Cursors.{is-valid}
-use Rattle.lexer.proofs.token.answer_in.Statement.{statement}
-use Rattle.lexer.proofs.token.answer_in.Tie as tie
+use Rattle.lexer.proofs.token.next_token.Statement.{statement}
+use Rattle.lexer.proofs.token.next_token.Tie as tie
 
 begins : (n : ℕ) (c : Cursor) (t : Bool) → t ≡ valid n c → t ≡ true → Valid n c
 begins n c t e f = is-valid n c (sym e ∙ f)
 
-module _ (s : List ℕ) (c : Cursor) (field t : Bool) (e : t ≡ valid (length s) c) where
-  read : (r : Answer) → t ≡ true → r ≡ answered s c (readLexeme field s (c .offset)) → r ≡ call field s c
+module _ (s : List ℕ) (c : Cursor) (origin : Source) (t : Bool) (e : t ≡ valid (length s) c) where
+  read : (r : Answer) → t ≡ true → r ≡ answered s c (readLexeme origin s (c .offset)) → r ≡ nextToken origin s c
   read r f g = cc
 
-  refused : (w : Fault) → t ≡ false → w ≡ notValid → Answer.Refused w c ≡ call field s c
+  refused : (w : Fault) → t ≡ false → w ≡ notValid → Answer.Refused w c ≡ nextToken origin s c
   refused w f g = cc
 
 ruleset ways = (begins, read, refused, needs)
@@ -42,6 +43,6 @@ returns c = search ways
 returns-2 : tie.Need-returns-2
 returns-2 c = search ways
 
-pub answer-in-spec : {M : Type 1} → statement M
-answer-in-spec =
+pub next-token-spec : {M : Type 1} → statement M
+next-token-spec =
     tie.close (tie.spec is-valid-requires answer-at-requires not-valid-requires returns returns-2)
