@@ -54,7 +54,7 @@ static void print_texts(const struct input *s) {
         if (number == THRINVAGE_READ)
             print_text(s->text, scratch, &t);
         else if (number == THRINVAGE_NO_TEXT)
-            number = thrinvage_next_token(s->text, s->length, k->offset, k->line, k->column, k, s->source);
+            number = thrinvage_next_token(s->text, s->length, k->offset, k->line, k->column, k, THRINVAGE_FILE);
     } while (number == THRINVAGE_READ);
     print_refused(number, k->refused_at, k->offset, k->line, k->column);
 }

@@ -67,8 +67,9 @@ pub struct Rust {
     scout: Machine,
 }
 
-fn starts_with_digit(case: &Case, start: Result<usize, Failure>) -> bool {
-    start.is_ok_and(|at| case.text.get(at).is_some_and(u8::is_ascii_digit))
+/// The byte where a token starts, if layout is passed and the text has not ended.
+fn byte_at_start(case: &Case, start: Result<usize, Failure>) -> Option<u8> {
+    case.text.get(start.ok()?).copied()
 }
 
 /// The Rust's calls on a case, one after another while `go_on` says so. Of a field, demand 2 says "equal to `next_number_token` where a digit
@@ -79,7 +80,10 @@ pub fn ask_rust(rust: &mut Rust, case: &Case, mut go_on: impl FnMut(usize, Curso
     let (mut offset, mut line, mut lines) = (base, case.cursor.line, 0);
     for index in 0.. {
         let start = rust.scout.start(&case.text[offset..]).skip_layout().map(|n| offset + n);
-        let answer = if case.call == b'n' && starts_with_digit(case, start) { session.next_number_token() } else { session.next_token() };
+        let answer = match byte_at_start(case, start) {
+            Some(b'0'..=b'9') if case.call == b'n' => session.next_number_token(),
+            _ => session.next_token(),
+        };
         let given = Cursor { offset, line, column: 0 };
         if let Ok(token) = &answer {
             offset = base + token.end;
@@ -123,10 +127,10 @@ pub fn class_of_failure(failure: Failure) -> usize {
 /// Demand 2's comparison of one answer.
 pub fn hold_against_rust(case: &Case, call: &RustCall, answer: &Answer, counts: &mut Counts) -> Result<(), String> {
     let same = |what: &str, same: bool| if same { Ok(()) } else { Err(what.to_string()) };
-    let byte_at_start = call.start.ok().and_then(|at| case.text.get(at));
+    let byte_at_start = byte_at_start(case, call.start);
     match (&call.answer, answer) {
         (Err(failure), Answer::Refused { number, .. }) => {
-            if byte_at_start != Some(&b'`') {
+            if byte_at_start != Some(b'`') {
                 same("refused as another kind", class_of_failure(failure) == class_of_refusal(*number))?;
             }
             counts.refusals[[2, 0, 1][class_of_refusal(*number)]] += 1;

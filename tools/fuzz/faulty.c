@@ -231,9 +231,9 @@ static bool writes_the_scratch_behind_the_part(struct done *done)
     return done->call == TEXT && is_read(done) && done->record[PART] == 1 && done->record[PART_END] < done->lent_size && (change(done->lent + done->lent_size - 1), true);
 }
 
-static bool calls_a_name_a_variable_in_the_text_call(struct done *done)
+static bool calls_a_name_a_variable(struct done *done)
 {
-    return done->call == TEXT && is_read(done) && done->record[KIND] == 0 && (done->record[KIND] = 1, true);
+    return is_read(done) && done->record[KIND] == THRINVAGE_NAME && (done->record[KIND] = THRINVAGE_VARIABLE, true);
 }
 
 static bool writes_the_tree_behind_its_nodes(struct done *done)
@@ -918,16 +918,11 @@ static bool is_told_of_more_nodes(struct done *done)
     return done->nodes != NULL;
 }
 
-/* ---- nor here: it was told the other source */
+/* ---- nor here: the archive was told the other source */
 
 static bool reads_as_the_other_source(struct done *done)
 {
     return done->call == TOKEN || done->call == FIELD;
-}
-
-static bool calls_a_name_a_variable(struct done *done)
-{
-    return is_read(done) && done->record[KIND] == THRINVAGE_NAME && (done->record[KIND] = THRINVAGE_VARIABLE, true);
 }
 
 /* Of the calls that have no part in packs, all; of those that read a clause, all at once, as they have one reader; else one call alone. */
@@ -983,7 +978,7 @@ static const struct fault {
     FAULT(shows_a_byte_more),
     FAULT(writes_the_scratch_for_a_part_of_the_text),
     FAULT(writes_the_scratch_behind_the_part),
-    FAULT(calls_a_name_a_variable_in_the_text_call),
+    FAULT_IN(TEXT, calls_a_name_a_variable),
     FAULT(writes_the_tree_behind_its_nodes),
     FAULT(counts_a_node_less),
     FAULT(forgets_a_child),
