@@ -7,7 +7,7 @@ use native.Mathlib.Omega.{arith}
 use borrow.Author.Tests.{le-leb}
 use lib.ListN.{length}
 use Rattle.lexer.specs.Cursor.{longest, startCursor, walk, part, moveTo, valid, Valid}
-use Rattle.lexer.specs.Token.{Lexeme, lexeme, refused, readLexeme, answered, notValid, nextToken}
+use Rattle.lexer.specs.Token.{Text, Lexeme, lexeme, refused, behindLayout, tokenSince, lexemeSince, readLexeme, answered, notValid, nextToken}
 use Rattle.lexer.specs.declared.refusal.Fault.{Fault}
 use Rattle.lexer.specs.declared.cursor.Cursor.{Cursor}
 use Rattle.lexer.specs.declared.token.Token.{Token}
@@ -19,6 +19,7 @@ use Rattle.lexer.proofs.Promises.{lexeme-ends}
 -- the token t was read at the cursor c of the text s, and the cursor d stands behind it
 pub record Promised (s : List ℕ) (c : Cursor) (t : Token) (d : Cursor) : Type 0 where
   pub from : Valid (length s) c
+  pub layout : t .layout ≡ c .offset
   pub behind : c .offset ≤ t .start
   pub ahead : t .start < d .offset
   pub inside : d .offset ≤ length s
@@ -26,6 +27,12 @@ pub record Promised (s : List ℕ) (c : Cursor) (t : Token) (d : Cursor) : Type 
   pub next : Valid (length s) d
   pub next-passes : valid (length s) d ≡ true
   pub walked : d ≡ walk c (part (c .offset) (d .offset) s)
+
+-- 02, request 8: where the layout before a token began
+since-layout : (from : ℕ) (l : Lexeme) (t : Token) (e : ℕ) (x : Text) → lexemeSince from l ≡ lexeme t e x → t .layout ≡ from
+unfolding lexemeSince
+since-layout from (lexeme u d y) t e x f = let q : tokenSince from u ≡ t = cc in sym (ap (λ (v : Token). v .layout) q)
+since-layout from (refused w) t e x f = let z : _≡_ {A = ℕ} 0 1 = cc in absurd (omega arith)
 
 -- the test of a cursor, from its facts
 pub passes : (n : ℕ) (c : Cursor) → Valid n c → valid n c ≡ true
@@ -59,6 +66,7 @@ module _ (origin : Source) (s : List ℕ) (c : Cursor) where
       let n : Valid (length s) d = rw m at (move-valid s c e k (p .inside) v) in
       record {
         from = v;
+        layout = since-layout (c .offset) (behindLayout origin s (c .offset)) t e x (cc);
         behind = p .behind;
         ahead = omega (arith, p .ahead, o);
         inside = n .offset;

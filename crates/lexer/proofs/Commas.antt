@@ -8,7 +8,7 @@ use lib.ListN.{getD}
 use borrow.Author.Tests.{eqb-true}
 use Rattle.lexer.specs.Chars.{classOf, openParen, closeParen, comma, openBracket, closeBracket, openBrace, closeBrace}
 use Rattle.lexer.specs.Name.{nameToken}
-use Rattle.lexer.specs.Token.{mark, soloTo, plainToken, Text, Lexeme, lexeme, refused, isComma, plainLexeme, readLexeme}
+use Rattle.lexer.specs.Token.{mark, soloTo, plainToken, Text, lexeme, isComma, readLexeme}
 use Rattle.lexer.specs.declared.kind.Plain.{Plain}
 use Rattle.lexer.specs.declared.token.Mark.{Mark}
 use Rattle.lexer.specs.declared.token.Token.{Token}
@@ -57,19 +57,9 @@ says origin s at layout x false h =
     origin layout
 
 module _ (origin : Source) (s : List ℕ) (from : ℕ) (t : Token) (e : ℕ) (x : Text) where
-  -- whether it is the Comma, by the byte where it starts
-  abbrev Tells : Lexeme → Type 0
-  Tells (lexeme u d y) = isComma (u .kind) ≡ eqb (getD s (u .start) 0) comma
-  Tells (refused w) = Unit {0}
-
-  tells : (at b : ℕ) → Seen s at b → (v : Bool) → eqb b comma ≡ v → (p : Plain) → Says v p → Tells (plainLexeme at p)
-  unfolding plainLexeme
-  tells at b l v h (Plain.Whole k y d) f = cc (l .it)
-  tells at b l v h (Plain.Refused w) f = tt
-
   -- a token that was read is the Comma exactly if a comma stands where it starts
   pub commas : readLexeme origin s from ≡ lexeme t e x → isComma (t .kind) ≡ eqb (getD s (t .start) 0) comma
   unfolding isComma
   commas h =
-      rw h at (read-each origin s Tells (λ w. tt) (λ at l bs d f. rw (l .it)) (λ at l bs d f. rw (l .it))
-      (λ at b l n layout. tells at b l (eqb b comma) refl (plainToken origin s at layout b) (says origin s at layout b (eqb b comma) refl)) from)
+      rw h at (read-each (λ k v at d y. isComma k ≡ eqb (getD s at 0) comma) origin s (λ at l bs d f. rw (l .it)) (λ at l bs d f. rw (l .it))
+      (λ at b l n layout. rw (l .it) (says origin s at layout b (eqb b comma) refl)) from)

@@ -14,8 +14,7 @@ use Rattle.lexer.specs.Look.{peek, lookahead}
 use Rattle.lexer.specs.Name.{alphanumerics, graphics, runToken, nameToken}
 use Rattle.lexer.specs.Number.{numberToken}
 use Rattle.lexer.specs.Quoted.{Quoted, decode}
-use Rattle.lexer.specs.Token.{mark, barTo, pointTo, soloTo, floated, valued, numbered, sourced, plainToken, decoded, Lexeme, lexeme, refused, token, plainLexeme, quotedTo, quotedLexeme, lexemeTo, afterLayout, readLexeme}
-use Rattle.lexer.specs.declared.refusal.Fault.{Fault}
+use Rattle.lexer.specs.Token.{mark, barTo, pointTo, soloTo, floated, valued, numbered, sourced, plainToken, Text, decoded, Lexeme, lexeme, refused, textOf, plainLexeme, quotedTo, quotedLexeme, lexemeTo, afterLayout, behindLayout, lexemeSince, readLexeme}
 use Rattle.lexer.specs.declared.chars.Look.{Look}
 use Rattle.lexer.specs.declared.chars.Peek.{Peek}
 use Rattle.lexer.specs.declared.cursor.Scan.{Scan}
@@ -116,34 +115,54 @@ module _ (P : Kind → Value → ℕ → Type 0) where
         (λ _. by-test Each (is underscoreChar x) _ _ (λ _. variable-each)
         (λ _. by-test Each (eqb x point) _ _ (λ t. end-each (eqb-true x point t) (peek s (at + 1))) (λ _. name-each)))))
 
--- ---- any token: Q holds of what is read
+-- ---- any token: Q holds of what is read, by its kind, value, start and end, and its text
 
--- of a quoted token of the kind k, at a quote q, by what is decoded
-abbrev pub Quotes : List ℕ → (Lexeme → Type 0) → Kind → ℕ → Type 0
-Quotes s Q k q = (at : ℕ) → Seen s at q → (bs : List ℕ) (e : ℕ) → decode q at s (at + 1) ≡ Quoted.whole bs e → Q (lexeme (token k Nothing at) e (decoded bs))
+module _ (Q : Kind → Value → ℕ → ℕ → Text → Type 0) where
+  abbrev pub OfRead : Lexeme → Type 0
+  OfRead (lexeme t e x) = Q (t .kind) (t .value) (t .start) e x
+  OfRead (refused w) = Unit {0}
 
--- of a refusal, a quoted token, another token: so of any
-module _ (origin : Source) (s : List ℕ) (Q : Lexeme → Type 0) (not-read : (w : Fault) → Q (refused w)) (names : Quotes s Q Name singleQuote) (strings : Quotes s Q String doubleQuote)
-    (others : (at x : ℕ) → Seen s at x → is quoteChar x ≡ false → (layout : Bool) → Q (plainLexeme at (plainToken origin s at layout x))) where
-  quoted-each : (k : Kind) (q : ℕ) → Quotes s Q k q → (at x : ℕ) → Seen s at x → eqb x q ≡ true → (d : Quoted) → decode q at s (at + 1) ≡ d → Q (quotedTo k at d)
-  unfolding quotedTo
-  quoted-each k q h at x l t (Quoted.whole bs e) f = h at (rw (eqb-true x q t) at l) bs e f
-  quoted-each k q h at x l t (Quoted.refused w) f = not-read w
+  -- where the layout before it began does not matter
+  of-since : (from : ℕ) (l : Lexeme) → OfRead l → OfRead (lexemeSince from l)
+  unfolding lexemeSince
+  of-since from (lexeme t e x) h = h
+  of-since from (refused w) h = tt
 
-  look-each : (at : ℕ) (layout : Bool) (r : Look) → lookahead s at ≡ r → Q (lexemeTo origin s at layout r)
-  unfolding lexemeTo quotedLexeme
-  look-each at layout (Look.Refused w) f = not-read w
-  look-each at layout (Look.Byte x) f =
-      let l = look-byte s at x f in
-      by-test Q (is quoteChar x) _ _
-      (λ _. by-test Q (eqb x singleQuote) _ _ (λ t. quoted-each Name singleQuote names at x l t (decode singleQuote at s (at + 1)) refl)
-      (λ _. by-test Q (eqb x doubleQuote) _ _ (λ t. quoted-each String doubleQuote strings at x l t (decode doubleQuote at s (at + 1)) refl) (λ _. not-read _)))
-      (λ n. others at x l n layout)
+  -- of a token that is not quoted, at `at`
+  abbrev pub OfPlain : ℕ → Plain → Type 0
+  OfPlain at = Each (λ k v e. Q k v at e (textOf k))
 
-  after-each : (from : ℕ) (r : Scan) → Q (afterLayout origin s from r)
-  unfolding afterLayout
-  after-each from (Scan.Refused w) = not-read w
-  after-each from (Scan.Stop at) = look-each at (ltb from at) (lookahead s at) refl
+  of-plain : (at : ℕ) (p : Plain) → OfPlain at p → OfRead (plainLexeme at p)
+  unfolding plainLexeme
+  of-plain at (Plain.Whole k v e) h = h
+  of-plain at (Plain.Refused w) h = tt
 
-  pub read-each : (from : ℕ) → Q (readLexeme origin s from)
-  read-each from = after-each from (layoutEnd s from)
+  -- of a quoted token of the kind k, at a quote q, by what is decoded
+  abbrev pub OfQuoted : List ℕ → Kind → ℕ → Type 0
+  OfQuoted s k q = (at : ℕ) → Seen s at q → (bs : List ℕ) (e : ℕ) → decode q at s (at + 1) ≡ Quoted.whole bs e → Q k Nothing at e (decoded bs)
+
+  -- of a quoted token and of another: so of any
+  module _ (origin : Source) (s : List ℕ) (names : OfQuoted s Name singleQuote) (strings : OfQuoted s String doubleQuote)
+      (others : (at x : ℕ) → Seen s at x → is quoteChar x ≡ false → (layout : Bool) → OfPlain at (plainToken origin s at layout x)) where
+    quoted-each : (k : Kind) (q : ℕ) → OfQuoted s k q → (at x : ℕ) → Seen s at x → eqb x q ≡ true → (d : Quoted) → decode q at s (at + 1) ≡ d → OfRead (quotedTo k at d)
+    unfolding quotedTo
+    quoted-each k q h at x l t (Quoted.whole bs e) f = h at (rw (eqb-true x q t) at l) bs e f
+    quoted-each k q h at x l t (Quoted.refused w) f = tt
+
+    look-each : (at : ℕ) (layout : Bool) (r : Look) → lookahead s at ≡ r → OfRead (lexemeTo origin s at layout r)
+    unfolding lexemeTo quotedLexeme
+    look-each at layout (Look.Refused w) f = tt
+    look-each at layout (Look.Byte x) f =
+        let l = look-byte s at x f in
+        by-test OfRead (is quoteChar x) _ _
+        (λ _. by-test OfRead (eqb x singleQuote) _ _ (λ t. quoted-each Name singleQuote names at x l t (decode singleQuote at s (at + 1)) refl)
+        (λ _. by-test OfRead (eqb x doubleQuote) _ _ (λ t. quoted-each String doubleQuote strings at x l t (decode doubleQuote at s (at + 1)) refl) (λ _. tt)))
+        (λ n. of-plain at (plainToken origin s at layout x) (others at x l n layout))
+
+    after-each : (from : ℕ) (r : Scan) → OfRead (afterLayout origin s from r)
+    unfolding afterLayout
+    after-each from (Scan.Refused w) = tt
+    after-each from (Scan.Stop at) = look-each at (ltb from at) (lookahead s at) refl
+
+    pub read-each : (from : ℕ) → OfRead (readLexeme origin s from)
+    read-each from = of-since from (behindLayout origin s from) (after-each from (layoutEnd s from))

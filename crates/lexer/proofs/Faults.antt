@@ -19,7 +19,7 @@ use Rattle.lexer.specs.Number.{radixClosed, radixTo, radixConstant, char
 use Rattle.lexer.specs.Number as Number
 use Rattle.lexer.specs.Quoted.{escapeOf, coded, closed, numericEscape, escapeTo, quoteTo, unquotable, itemTo, quotedItem, Quoted, withChar, outOfLimit, decode}
 use Rattle.lexer.specs.Refusal.{fault}
-use Rattle.lexer.specs.Token.{mark, barTo, pointTo, soloTo, floated, valued, numbered, sourced, plainToken, Lexeme, lexeme, refused, plainLexeme, quotedTo, quotedLexeme, lexemeTo, afterLayout, readLexeme, answered, notValid, nextToken}
+use Rattle.lexer.specs.Token.{mark, barTo, pointTo, soloTo, floated, valued, numbered, sourced, plainToken, Lexeme, lexeme, refused, plainLexeme, quotedTo, quotedLexeme, lexemeTo, afterLayout, behindLayout, lexemeSince, readLexeme, answered, notValid, nextToken}
 use Rattle.lexer.specs.declared.refusal.Fault.{Fault}
 use Rattle.lexer.specs.declared.refusal.Refusal.{Refusal}
 use Rattle.lexer.specs.declared.refusal.Refusal.the-variants.{EndOfText, UnclosedComment, NoToken, BadQuoted, ForeignByte, SetAside, OutOfLimit, NotValid, NoRoom, TooManyTokens, NoReading, NoText, TooLong, NoPack, TokenTooLong, UnknownVersion}
@@ -466,13 +466,19 @@ module _ (s : List ℕ) (c : Cursor) where
   after-placed origin h (Refused w) f = subst (OfScan s c (Starts s c)) f (layout-placed s c (Starts s c) (c .offset) h)
   after-placed origin h (Stop at) f = lexeme-placed s c (Starts s c) at f origin (ltb (c .offset) at) (lookahead s at) (inside-of (Stop at) f .1) refl
 
+  -- wherever the layout before it began
+  since-placed : (l : Lexeme) → OfLexeme s c (Starts s c) l → OfLexeme s c (Starts s c) (lexemeSince (c .offset) l)
+  unfolding lexemeSince
+  since-placed (lexeme t e x) p = tt
+  since-placed (refused w) p = p
+
   answer-placed : (origin : Source) (w : Fault) (back : Cursor) (b : Bool) (l : Lexeme) → valid (length s) c ≡ b → readLexeme origin s (c .offset) ≡ l
       → cond b (answered s c l) (Answer.Refused notValid c) ≡ Answer.Refused w back → Placed s c w
   unfolding answered
   answer-placed origin w back true (lexeme t e x) v f g = let z : _≡_ {A = ℕ} 0 1 = cc in absurd (omega arith)
   answer-placed origin w back true (refused u) v f g =
       let q : u ≡ w = cc in
-      subst (Placed s c) q (subst (OfLexeme s c (Starts s c)) f (after-placed origin (is-valid (length s) c v .offset) (layoutEnd s (c .offset)) refl))
+      subst (Placed s c) q (subst (OfLexeme s c (Starts s c)) f (since-placed (behindLayout origin s (c .offset)) (after-placed origin (is-valid (length s) c v .offset) (layoutEnd s (c .offset)) refl)))
   answer-placed origin w back false l v f g = let q : notValid ≡ w = cc in subst (Placed s c) q (refl, v)
 
   -- a refusal of the token call is where 01's table puts it

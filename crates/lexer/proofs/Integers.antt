@@ -6,8 +6,7 @@ use mathlib.Core.List.{List}
 use native.Mathlib.Omega.{arith}
 use borrow.Author.Tests.{ltb-true}
 use Rattle.lexer.specs.Digits.{largestMagnitude, beyond}
-use Rattle.lexer.specs.Token.{plainToken, Text, Lexeme, lexeme, refused, plainLexeme, readLexeme}
-use Rattle.lexer.specs.declared.kind.Plain.{Plain}
+use Rattle.lexer.specs.Token.{plainToken, Text, lexeme, readLexeme}
 use Rattle.lexer.specs.declared.kind.Value.{Value}
 use Rattle.lexer.specs.declared.kind.Value.the-variants.{Integer, Float, Nothing}
 use Rattle.lexer.specs.declared.token.Token.{Token}
@@ -19,16 +18,6 @@ abbrev Within : Value → Type 0
 Within (Integer n) = n ≤ largestMagnitude
 Within (Float x) = Unit {0}
 Within Nothing = Unit {0}
-
--- so is the value of what was read, if it is a token
-abbrev Reads-within : Lexeme → Type 0
-Reads-within (lexeme t e x) = Within (t .value)
-Reads-within (refused w) = Unit {0}
-
-read-within : (at : ℕ) (p : Plain) → Each (λ k v e. Within v) p → Reads-within (plainLexeme at p)
-unfolding plainLexeme
-read-within at (Plain.Whole k v e) h = h
-read-within at (Plain.Refused w) h = tt
 
 module _ (origin : Source) (s : List ℕ) (from : ℕ) (t : Token) (e : ℕ) (x : Text) where
   -- a token that is not quoted, at `at`, where b stands
@@ -50,6 +39,4 @@ module _ (origin : Source) (s : List ℕ) (from : ℕ) (t : Token) (e : ℕ) (x 
 
   pub within-limit : readLexeme origin s from ≡ lexeme t e x → (n : ℕ) → t .value ≡ Integer n → n ≤ largestMagnitude
   within-limit h n f =
-      subst Within f
-      (rw h at (read-each origin s Reads-within (λ w. tt) (λ at l bs d g. tt) (λ at l bs d g. tt)
-      (λ at b l q layout. read-within at (plainToken origin s at layout b) (plain-within at b layout)) from))
+      subst Within f (rw h at (read-each (λ k v at e y. Within v) origin s (λ at l bs d g. tt) (λ at l bs d g. tt) (λ at b l q layout. plain-within at b layout) from))

@@ -11,7 +11,7 @@ use lib.ListN.{take, drop}
 use Rattle.lexer.specs.Chars.{classOf, is, within, smallLetter, decimalDigit, graphicTokenChar, layoutChar, foreignByte, carriageReturn}
 use Rattle.lexer.specs.Cursor.{part}
 use Rattle.lexer.specs.Name.{runEnd, nameToken}
-use Rattle.lexer.specs.Token.{plainToken, source, Lexeme, lexeme, refused, textOf, plainLexeme, readLexeme}
+use Rattle.lexer.specs.Token.{plainToken, Text, source, lexeme, textOf, readLexeme}
 use Rattle.lexer.specs.declared.cursor.Scan.{Scan}
 use Rattle.lexer.specs.declared.kind.Kind.{Kind}
 use Rattle.lexer.specs.declared.kind.Plain.{Plain}
@@ -81,12 +81,10 @@ module _ (s : List ℕ) where
       run lo hi few e f _ = more-kept at x (drop (at + 1) s) e b (run-kept lo hi few (at + 1) (drop (at + 1) s) e f)
 
   -- any token: its bytes stay, if they are its text
-  abbrev Keeps : Lexeme → Type 0
-  Keeps (lexeme t e x) = x ≡ source → part (t .start) e (blanked s) ≡ part (t .start) e s
-  Keeps (refused w) = Unit {0}
+  abbrev Keeps : ℕ → ℕ → Text → Type 0
+  Keeps at e x = x ≡ source → part at e (blanked s) ≡ part at e s
 
-  keeps : (at x : ℕ) → Seen s at x → (p : Plain) → Each (Own at x) p → Keeps (plainLexeme at p)
-  unfolding plainLexeme
+  keeps : (at x : ℕ) → Seen s at x → (p : Plain) → Each (Own at x) p → Each (λ k v e. Keeps at e (textOf k)) p
   keeps at x l (Plain.Whole k v e) h = λ g. rw (drop-same at s, l .rest) (h g)
   keeps at x l (Plain.Refused w) h = tt
 
@@ -99,5 +97,5 @@ module _ (s : List ℕ) where
   -- a token that was read
   pub own-bytes : (origin : Source) (from : ℕ) (t : Token) (e : ℕ) → readLexeme origin s from ≡ lexeme t e source → part (t .start) e (blanked s) ≡ part (t .start) e s
   own-bytes origin from t e f =
-      rw f at (read-each origin s Keeps (λ w. tt) (λ at l bs d h g. cc) (λ at l bs d h g. cc)
+      rw f at (read-each (λ k v at d y. Keeps at d y) origin s (λ at l bs d h g. cc) (λ at l bs d h g. cc)
       (λ at x l n layout. keeps at x l (plainToken origin s at layout x) (of-byte origin layout at x (eqb x carriageReturn) refl)) from) refl

@@ -16,7 +16,7 @@ use Rattle.lexer.specs.Look.{peek, lookahead}
 use Rattle.lexer.specs.Name.{runStop, runEnd, alphanumerics, graphics, runToken, variableToken, nameToken}
 use Rattle.lexer.specs.Number.{numberToken}
 use Rattle.lexer.specs.Quoted.{Quoted, decode}
-use Rattle.lexer.specs.Token.{mark, barTo, barToken, pointTo, endToken, soloTo, soloToken, floated, valued, numbered, sourced, plainToken, Text, Lexeme, lexeme, refused, token, plainLexeme, quotedTo, quotedLexeme, lexemeTo, afterLayout, readLexeme}
+use Rattle.lexer.specs.Token.{mark, barTo, barToken, pointTo, endToken, soloTo, soloToken, floated, valued, numbered, sourced, plainToken, Text, Lexeme, lexeme, refused, token, plainLexeme, quotedTo, quotedLexeme, lexemeTo, afterLayout, behindLayout, lexemeSince, readLexeme}
 use Rattle.lexer.specs.declared.chars.Peek.{Peek}
 use Rattle.lexer.specs.declared.chars.Look.{Look}
 use Rattle.lexer.specs.declared.cursor.Scan.{Scan}
@@ -246,6 +246,12 @@ unfolding afterLayout
 of-layout origin s from (Refused w) b = tt
 of-layout origin s from (Stop at) b = of-look s from at (b .0) origin (ltb from at) (lookahead s at) refl
 
+-- wherever the layout before it began
+of-since : (s : List ℕ) (from : ℕ) (l : Lexeme) → Ends s from l → Ends s from (lexemeSince from l)
+unfolding lexemeSince
+of-since s from (lexeme t e x) p = record { behind = p .behind; ahead = p .ahead; inside = p .inside }
+of-since s from (refused w) p = tt
+
 -- an accepted token starts at or after the cursor, ends after it starts, within the text
 pub lexeme-ends : (origin : Source) (s : List ℕ) (from : ℕ) (t : Token) (e : ℕ) (x : Text) → from ≤ length s → readLexeme origin s from ≡ lexeme t e x → LexemeEnds s from t e
-lexeme-ends origin s from t e x h f = rw f at (of-layout origin s from (layoutEnd s from) (layout-ends s from))
+lexeme-ends origin s from t e x h f = rw f at (of-since s from (behindLayout origin s from) (of-layout origin s from (layoutEnd s from) (layout-ends s from)))

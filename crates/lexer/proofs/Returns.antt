@@ -19,7 +19,7 @@ use Rattle.lexer.specs.Number.{radixClosed, radixTo, radixConstant, char
 use Rattle.lexer.specs.Number as Number
 use Rattle.lexer.specs.Quoted.{escapeOf, closed, numericEscape, escapeTo, escape, quoteTo, itemTo, quotedItem, Quoted, withChar, outOfLimit, itemTurn, quotedTurn, unended, decode}
 use Rattle.lexer.specs.Refusal.{fault}
-use Rattle.lexer.specs.Token.{mark, barTo, pointTo, endToken, soloTo, numbered, sourced, plainToken, Lexeme, lexeme, refused, plainLexeme, quotedTo, quotedLexeme, lexemeTo, afterLayout, readLexeme, answered, nextToken}
+use Rattle.lexer.specs.Token.{mark, barTo, pointTo, endToken, soloTo, numbered, sourced, plainToken, Lexeme, lexeme, refused, plainLexeme, quotedTo, quotedLexeme, lexemeTo, afterLayout, behindLayout, lexemeSince, readLexeme, answered, nextToken}
 use Rattle.lexer.specs.declared.refusal.Fault.{Fault}
 use Rattle.lexer.specs.declared.refusal.Refusal.the-variants.{BadQuoted}
 use Rattle.lexer.specs.declared.chars.Peek.{Peek}
@@ -366,9 +366,13 @@ module _ (s : List ℕ) where
     after-layout from (Scan.Refused w) = same
     after-layout from (Scan.Stop at) = token-same at origin (ltb from at)
 
+    behind-layout : (from : ℕ) → Unless refused (behindLayout origin s′ from) (behindLayout origin s from)
+    behind-layout from = rw (layout-same from) (after-layout from (layoutEnd s from))
+
     -- what is read
     pub lexeme-same : (from : ℕ) → Unless refused (readLexeme origin s′ from) (readLexeme origin s from)
-    lexeme-same from = rw (layout-same from) (after-layout from (layoutEnd s from))
+    unfolding lexemeSince
+    lexeme-same from = through (lexemeSince from) (behind-layout from)
 
     module _ (c : Cursor) where
       answer-same : {a b : Lexeme} → Unless refused a b → Unless (λ w. Answer.Refused w c) (answered s′ c a) (answered s c b)

@@ -11,7 +11,7 @@ use Rattle.lexer.specs.Cursor.{valid}
 use Rattle.lexer.specs.Layout.{layoutEnd}
 use Rattle.lexer.specs.Look.{lookahead}
 use Rattle.lexer.specs.Number.{numberToken}
-use Rattle.lexer.specs.Token.{numbered, sourced, plainToken, Lexeme, plainLexeme, lexemeTo, afterLayout, readLexeme, answered, notValid, nextToken}
+use Rattle.lexer.specs.Token.{numbered, sourced, plainToken, Lexeme, plainLexeme, lexemeTo, afterLayout, behindLayout, lexemeSince, answered, notValid, nextToken}
 use Rattle.lexer.specs.declared.chars.Look.{Look}
 use Rattle.lexer.specs.declared.cursor.Cursor.{Cursor}
 use Rattle.lexer.specs.declared.cursor.Scan.{Scan}
@@ -74,11 +74,11 @@ module _ (s : List ℕ) (c : Cursor) where
 
   pub sources-alike : ((at x : ℕ) → StartsWith s c at x → is decimalDigit x ≡ true → stops (numberToken s at) ≡ true) → nextToken Field s c ≡ nextToken File s c
   sources-alike h =
-      ap (λ (x : Lexeme). cond (valid (length s) c) (answered s c x) (Answer.Refused notValid c))
+      ap (λ (x : Lexeme). cond (valid (length s) c) (answered s c (lexemeSince (c .offset) x)) (Answer.Refused notValid c))
       (after-alike (layoutEnd s (c .offset)) (λ at x l t. h at x (record { layout = l; there = t })))
 
   -- ---- and where it does not stop
   pub source-reaches : (origin : Source) (at x : ℕ) → StartsWith s c at x → is decimalDigit x ≡ true → (n : Numeral) (e : ℕ) → numberToken s at ≡ NumberToken.Partial n e
-      → readLexeme origin s (c .offset) ≡ plainLexeme at (numbered at (sourced origin (NumberToken.Partial n e)))
+      → behindLayout origin s (c .offset) ≡ plainLexeme at (numbered at (sourced origin (NumberToken.Partial n e)))
   unfolding afterLayout lexemeTo plainToken
   source-reaches origin at x l d n e f = cc (l .layout, l .there, f, eqb-true (classOf x) decimalDigit d)

@@ -19,7 +19,7 @@ use Rattle.lexer.specs.Name.{runEnd, runToken, nameToken}
 use Rattle.lexer.specs.Number.{radixClosed, radixTo, characterCode, zeroTo, exponentEnds, signTo, letterTo, exponentTo, float, pointTo, integerTo}
 use Rattle.lexer.specs.Quoted.{quoteTo, itemTo}
 use Rattle.lexer.specs.Refusal.{fault}
-use Rattle.lexer.specs.Token.{floated, valued, numbered, plainToken, token, plainLexeme, lexemeTo, afterLayout, answered, nextToken}
+use Rattle.lexer.specs.Token.{floated, valued, numbered, plainToken, token, plainLexeme, lexemeTo, afterLayout, tokenSince, lexemeSince, answered, nextToken}
 use Rattle.lexer.specs.declared.refusal.Refusal.{Refusal}
 use Rattle.lexer.specs.declared.refusal.Refusal.the-variants.{EndOfText, UnclosedComment, OutOfLimit}
 use Rattle.lexer.specs.declared.cursor.Cursor.{Cursor}
@@ -43,9 +43,9 @@ at n = record { offset = n; line = 0; column = n }
 abbrev from : ℕ → String → Answer
 from n s = nextToken File (bytes s) (at n)
 
--- a token from one offset to another, or a refusal and its offset at the start of the text
-abbrev read : ℕ → ℕ → Kind → Value → Answer
-read n e k v = Answer.Read (token k v n) (at e)
+-- a token from one offset to another, with the offset at which the layout before it began; or a refusal and its offset at the start of the text
+abbrev read : ℕ → ℕ → ℕ → Kind → Value → Answer
+read a n e k v = Answer.Read (tokenSince a (token k v n)) (at e)
 
 abbrev refused : Refusal → ℕ → Answer
 refused r n = Answer.Refused (fault r n) (at 0)
@@ -53,25 +53,25 @@ refused r n = Answer.Refused (fault r n) (at 0)
 -- what the definition answers, and what 01 says
 abbrev pub table : List (Answer × Answer)
 table =
-    (from 0 "0xg", read 0 1 Number (Integer 0))
+    (from 0 "0xg", read 0 0 1 Number (Integer 0))
     ∷ (from 0 "0x", refused EndOfText 2)
-    ∷ (from 0 "0x1F", read 0 4 Number (Integer 31))
-    ∷ (from 0 "00x1", read 0 2 Number (Integer 0))
-    ∷ (from 0 "1.", read 0 1 Number (Integer 1))
-    ∷ (from 0 "1.0e+", read 0 3 Number (Float (fin false 1 (pos 0))))
-    ∷ (from 0 "0''x", read 0 1 Number (Integer 0))
-    ∷ (from 0 "0'''", read 0 4 Number (Integer 39))
+    ∷ (from 0 "0x1F", read 0 0 4 Number (Integer 31))
+    ∷ (from 0 "00x1", read 0 0 2 Number (Integer 0))
+    ∷ (from 0 "1.", read 0 0 1 Number (Integer 1))
+    ∷ (from 0 "1.0e+", read 0 0 3 Number (Float (fin false 1 (pos 0))))
+    ∷ (from 0 "0''x", read 0 0 1 Number (Integer 0))
+    ∷ (from 0 "0'''", read 0 0 4 Number (Integer 39))
     ∷ (from 0 "/*", refused EndOfText 2)
     ∷ (from 0 "/* ", refused UnclosedComment 0)
-    ∷ (from 0 "9223372036854775808 ", read 0 19 Number (Integer 9223372036854775808))
+    ∷ (from 0 "9223372036854775808 ", read 0 0 19 Number (Integer 9223372036854775808))
     ∷ (from 0 "9223372036854775809 ", refused OutOfLimit 0)
     -- the readings that a hurried port gets wrong
     ∷ (from 0 "/*/", refused UnclosedComment 0)
-    ∷ (from 1 "X=/*c*/Y", read 1 4 Name Nothing)
+    ∷ (from 1 "X=/*c*/Y", read 1 1 4 Name Nothing)
     -- March: an opening mark inside a comment does not nest
-    ∷ (from 0 "/* /* */ a.", read 9 10 Name Nothing)
+    ∷ (from 0 "/* /* */ a.", read 0 9 10 Name Nothing)
     ∷ []
 
 pub specimens : map (λ (r : Answer × Answer). r .0) table ≡ map (λ (r : Answer × Answer). r .1) table
-unfolding classOf walk moveTo valid digitOf digits scale withinLimits round after items past commentOpened slashed layoutTextOf layoutTurn front needed runEnd runToken nameToken radixClosed radixTo characterCode zeroTo exponentEnds signTo letterTo exponentTo float pointTo integerTo quoteTo itemTo floated valued numbered plainToken plainLexeme lexemeTo afterLayout answered
+unfolding classOf walk moveTo valid digitOf digits scale withinLimits round after items past commentOpened slashed layoutTextOf layoutTurn front needed runEnd runToken nameToken radixClosed radixTo characterCode zeroTo exponentEnds signTo letterTo exponentTo float pointTo integerTo quoteTo itemTo floated valued numbered plainToken plainLexeme lexemeTo afterLayout lexemeSince answered
 specimens = refl

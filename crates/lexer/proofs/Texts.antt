@@ -8,7 +8,7 @@ use Rattle.lexer.specs.Chars.{singleQuote, doubleQuote}
 use Rattle.lexer.specs.Cursor.{startCursor, moveTo}
 use Rattle.lexer.specs.Quoted.{Quoted, decode}
 use Rattle.lexer.specs.Text.{Reads}
-use Rattle.lexer.specs.Token.{plainToken, Text, source, decoded, none, Lexeme, lexeme, refused, token, textOf, plainLexeme, readLexeme, kept, spelledTo, found}
+use Rattle.lexer.specs.Token.{plainToken, Text, source, decoded, none, Lexeme, lexeme, refused, textOf, readLexeme, kept, spelledTo, found}
 use Rattle.lexer.specs.declared.cursor.Cursor.{Cursor}
 use Rattle.lexer.specs.declared.kind.Kind.{Kind}
 use Rattle.lexer.specs.declared.kind.Kind.the-variants.{Name, Variable, String, Number, Open, OpenCT, Close, OpenList, CloseList, OpenCurly, CloseCurly, HeadTailSeparator, DoubleBar, Comma, End}
@@ -20,7 +20,7 @@ use Rattle.lexer.specs.declared.token.Found.{Found}
 use Rattle.lexer.specs.declared.token.Source.{Source}
 use Rattle.lexer.specs.declared.token.Source.the-variants.{File}
 use Rattle.lexer.proofs.Cursors.{move-offset}
-use Rattle.lexer.proofs.EachToken.{Quotes, read-each}
+use Rattle.lexer.proofs.EachToken.{Each, OfQuoted, read-each}
 use Rattle.lexer.proofs.Promises.{lexeme-ends}
 
 -- ---- a token whose text is decoded begins with the quote by which it is decoded
@@ -30,43 +30,42 @@ pub record QuotedAt (s : List ℕ) (at e : ℕ) (bs : List ℕ) : Type 0 where
   pub inside : at < length s
   pub reads : decode (getD s at 0) at s (at + 1) ≡ Quoted.whole bs e
 
-abbrev Decodes : List ℕ → Lexeme → Type 0
-Decodes s (lexeme t e (decoded bs)) = QuotedAt s (t .start) e bs
-Decodes s (lexeme t e source) = Unit {0}
-Decodes s (lexeme t e none) = Unit {0}
-Decodes s (refused w) = Unit {0}
+-- a token, by where it starts and ends and by its text
+abbrev Decodes : List ℕ → ℕ → ℕ → Text → Type 0
+Decodes s at e (decoded bs) = QuotedAt s at e bs
+Decodes s at e source = Unit {0}
+Decodes s at e none = Unit {0}
 
 module _ (s : List ℕ) where
   -- a token that is not quoted has its own text or none
-  kind-decodes : (k : Kind) (t : Token) (e : ℕ) → Decodes s (lexeme t e (textOf k))
-  kind-decodes Name t e = tt
-  kind-decodes Variable t e = tt
-  kind-decodes String t e = tt
-  kind-decodes Number t e = tt
-  kind-decodes Open t e = tt
-  kind-decodes OpenCT t e = tt
-  kind-decodes Close t e = tt
-  kind-decodes OpenList t e = tt
-  kind-decodes CloseList t e = tt
-  kind-decodes OpenCurly t e = tt
-  kind-decodes CloseCurly t e = tt
-  kind-decodes HeadTailSeparator t e = tt
-  kind-decodes DoubleBar t e = tt
-  kind-decodes Comma t e = tt
-  kind-decodes End t e = tt
+  kind-decodes : (k : Kind) (at e : ℕ) → Decodes s at e (textOf k)
+  kind-decodes Name at e = tt
+  kind-decodes Variable at e = tt
+  kind-decodes String at e = tt
+  kind-decodes Number at e = tt
+  kind-decodes Open at e = tt
+  kind-decodes OpenCT at e = tt
+  kind-decodes Close at e = tt
+  kind-decodes OpenList at e = tt
+  kind-decodes CloseList at e = tt
+  kind-decodes OpenCurly at e = tt
+  kind-decodes CloseCurly at e = tt
+  kind-decodes HeadTailSeparator at e = tt
+  kind-decodes DoubleBar at e = tt
+  kind-decodes Comma at e = tt
+  kind-decodes End at e = tt
 
-  plain-decodes : (at : ℕ) (p : Plain) → Decodes s (plainLexeme at p)
-  unfolding plainLexeme
-  plain-decodes at (Whole k v e) = kind-decodes k (token k v at) e
+  plain-decodes : (at : ℕ) (p : Plain) → Each (λ k v e. Decodes s at e (textOf k)) p
+  plain-decodes at (Whole k v e) = kind-decodes k at e
   plain-decodes at (Refused w) = tt
 
   -- a quote, and what follows it
-  decodes-quote : (k : Kind) (q : ℕ) → Quotes s (Decodes s) k q
+  decodes-quote : (k : Kind) (q : ℕ) → OfQuoted (λ k v at e x. Decodes s at e x) s k q
   decodes-quote k q at l bs e f = record { inside = l .inside; reads = rw (l .it) f }
 
   pub decoded-at : (origin : Source) (from : ℕ) (t : Token) (e : ℕ) (bs : List ℕ) → readLexeme origin s from ≡ lexeme t e (decoded bs) → QuotedAt s (t .start) e bs
   decoded-at origin from t e bs f =
-      rw f at (read-each origin s (Decodes s) (λ w. tt) (decodes-quote Name singleQuote) (decodes-quote String doubleQuote)
+      rw f at (read-each (λ k v at e x. Decodes s at e x) origin s (decodes-quote Name singleQuote) (decodes-quote String doubleQuote)
       (λ at x l n layout. plain-decodes at (plainToken origin s at layout x)) from)
 
 -- ---- what is kept of a token that was read

@@ -20,7 +20,7 @@ use Rattle.lexer.specs.Number.{numberToken}
 use Rattle.lexer.specs.Quoted.{escape, quotedItem, Quoted, decode}
 use Rattle.lexer.specs.Refusal.{numberOf, fault}
 use Rattle.lexer.specs.Text.{leaves, nextTokenText, seen, shown, counts, countedText, quotedText}
-use Rattle.lexer.specs.Token.{endToken, valued, numbered, Text, source, decoded, lexeme, refused, isComma, plainLexeme, readLexeme, answered, nextToken}
+use Rattle.lexer.specs.Token.{endToken, valued, numbered, Text, source, decoded, lexeme, refused, isComma, plainLexeme, lexemeSince, readLexeme, answered, nextToken}
 use Rattle.lexer.specs.declared.refusal.Fault.{Fault}
 use Rattle.lexer.specs.declared.refusal.Refusal.{Refusal}
 use Rattle.lexer.specs.declared.refusal.Refusal.the-variants.{EndOfText, UnclosedComment, BadQuoted, ForeignByte}
@@ -105,6 +105,10 @@ module _ (s : List ℕ) (c : Cursor) where
   pub token-promises : (origin : Source) (t : Token) (next : Cursor) → nextToken origin s c ≡ Answer.Read t next → Promised s c t next
   token-promises origin = read-promises origin s c
 
+  -- 02, request 8: "from a valid cursor that offset is the cursor's"
+  pub token-layout : (origin : Source) (t : Token) (next : Cursor) → nextToken origin s c ≡ Answer.Read t next → t .layout ≡ c .offset
+  token-layout origin t next f = token-promises origin t next f .layout
+
   -- line and column behind a token are those of the bytes walked over from the cursor
   pub token-walks : (origin : Source) (t : Token) (next : Cursor) → nextToken origin s c ≡ Answer.Read t next → next ≡ walk c (part (c .offset) (next .offset) s)
   token-walks origin t next f = token-promises origin t next f .walked
@@ -134,10 +138,10 @@ module _ (s : List ℕ) (c : Cursor) where
     -- if it does, a file is refused there, and a field has the number
     module _ (d : is decimalDigit x ≡ true) (n : Numeral) (e : ℕ) (f : numberToken s at ≡ NumberToken.Partial n e) (v : valid (length s) c ≡ true) where
       pub file-ends : nextToken File s c ≡ Answer.Refused (fault EndOfText e) c
-      unfolding numbered plainLexeme answered
+      unfolding numbered plainLexeme lexemeSince answered
       file-ends = cc (v, source-reaches s c File at x l d n e f)
 
-      pub field-ends : nextToken Field s c ≡ answered s c (plainLexeme at (valued at e n))
+      pub field-ends : nextToken Field s c ≡ answered s c (lexemeSince (c .offset) (plainLexeme at (valued at e n)))
       unfolding numbered
       field-ends = cc (v, source-reaches s c Field at x l d n e f)
 

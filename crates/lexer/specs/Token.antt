@@ -131,8 +131,9 @@ pub data Lexeme : Type 0 where
   lexeme : Token → ℕ → Text → Lexeme
   refused : Fault → Lexeme
 
+-- a token at an offset, with no layout before it
 abbrev pub token : Kind → Value → ℕ → Token
-token k v at = record { kind = k; value = v; start = at }
+token k v at = record { kind = k; value = v; start = at; layout = at }
 
 -- 01: names and variables have a text (and strings, which are quoted)
 abbrev pub textOf : Kind → Text
@@ -197,8 +198,20 @@ unfoldable pub afterLayout : Source → List ℕ → ℕ → Scan → Lexeme
 afterLayout origin s from (Scan.Refused w) = refused w
 afterLayout origin s from (Scan.Stop at) = lexemeTo origin s at (ltb from at) (lookahead s at)
 
+abbrev pub behindLayout : Source → List ℕ → ℕ → Lexeme
+behindLayout origin s from = afterLayout origin s from (layoutEnd s from)
+
+-- 02, request 8: "each token record shall carry the offset at which the layout before it began"
+abbrev pub tokenSince : ℕ → Token → Token
+tokenSince from t = record { kind = t .kind; value = t .value; start = t .start; layout = from }
+
+unfoldable pub lexemeSince : ℕ → Lexeme → Lexeme
+lexemeSince from (lexeme t e x) = lexeme (tokenSince from t) e x
+lexemeSince from (refused w) = refused w
+
+-- what is read from an offset on: there the layout before the token begins, be it empty
 abbrev pub readLexeme : Source → List ℕ → ℕ → Lexeme
-readLexeme origin s from = afterLayout origin s from (layoutEnd s from)
+readLexeme origin s from = lexemeSince from (behindLayout origin s from)
 
 -- ---- the call
 

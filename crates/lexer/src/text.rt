@@ -14,6 +14,7 @@ use crate::token::Spelling;
 use crate::token::Token;
 use crate::token::not_valid;
 use crate::token::read_token;
+use crate::token::token_since;
 ghost use Prim.Native.Nat.{_+_};
 ghost use mathlib.Core.Path.{_≡_};
 ghost use lib.ListN.{length};
@@ -124,7 +125,7 @@ fn text_at(text: &[u8], cursor: Cursor, scratch: &mut [u8]) -> TextAnswer
         } => token_text(
             text,
             cursor,
-            token,
+            token_since(token, cursor.offset),
             spelling,
             Cursor {
                 offset,

@@ -49,13 +49,14 @@ ghost use Rattle.lexer.specs.declared.kind.Value.{Value};
 ghost use Rattle.lexer.specs.Number.{numberToken};
 ghost use Rattle.lexer.specs.Quoted.{decode};
 ghost use Rattle.lexer.specs.Look.{lookahead};
-ghost use Rattle.lexer.specs.Token.{mark, isMark, barToken, endToken, valued, numbered, sourced, plainToken, textOf, kept, plainLexeme, quotedTo, quotedLexeme, lexemeTo, readLexeme, answered, notValid, tokenHere, nextToken, spelledTo, found, At, AtDigit, Unmarked, Begins, Quotes, Passing};
+ghost use Rattle.lexer.specs.Token.{mark, isMark, barToken, endToken, valued, numbered, sourced, plainToken, textOf, kept, plainLexeme, quotedTo, quotedLexeme, lexemeTo, behindLayout, tokenSince, readLexeme, answered, notValid, tokenHere, nextToken, spelledTo, found, At, AtDigit, Unmarked, Begins, Quotes, Passing};
 
-// A token, whose span ends where the cursor behind it stands.
+// A token, whose span ends where the cursor behind it stands. The layout before it, perhaps none, began at `layout`.
 pub struct Token {
     pub kind: Kind,
     pub value: Value,
     pub start: usize,
+    pub layout: usize,
 }
 
 // What the text is: a file, or what was typed into a field, where a number may reach the end.
@@ -360,6 +361,7 @@ fn plain_found(text: &[u8], c: Cursor, layout: bool, source: Source, b: u8) -> F
                 kind,
                 value,
                 start: at,
+                layout: at,
             },
             spelling_of(kind),
             past_token(text, c, end),
@@ -380,6 +382,7 @@ fn quoted_token(text: &[u8], c: Cursor, quote: u8, kind: Kind) -> Found
                 kind,
                 value: Value::Nothing,
                 start: at,
+                layout: at,
             },
             Spelling::Decoded(length),
             next,
@@ -437,11 +440,26 @@ fn token_at(text: &[u8], c: Cursor, layout: bool, source: Source) -> Found
 // The token behind the layout at a valid cursor.
 pub(crate) fn read_token(text: &[u8], cursor: Cursor, source: Source) -> Found
     requires { ⌜ Valid (length (now text)) cursor ⌝ }
-    ensures { λ r. ⌜ r ≡ found (now (text .entry)) cursor (readLexeme source (now (text .entry)) (cursor .offset)) ⌝ }
+    ensures { λ r. ⌜ r ≡ found (now (text .entry)) cursor (behindLayout source (now (text .entry)) (cursor .offset)) ⌝ }
 {
     match scan_for_layout(text, cursor) {
         Moved::Refused(fault) => Found::Refused(fault),
         Moved::To(c) => token_at(text, c, cursor.offset < c.offset, source),
+    }
+}
+
+// The token, with the layout before it that began at `from`. It is put in where the token is handed out: earlier it would cost the text call a
+// tenth of its time.
+pub(crate) fn token_since(token: Token, from: usize) -> Token
+    ensures { λ r. ⌜ r ≡ tokenSince from token ⌝ }
+{
+    let kind = token.kind;
+    let value = token.value;
+    Token {
+        kind,
+        value,
+        start: token.start,
+        layout: from,
     }
 }
 
@@ -459,7 +477,7 @@ fn answer_at(text: &[u8], cursor: Cursor, source: Source) -> Answer
             spelling: _,
             column,
         } => Answer::Read {
-            token,
+            token: token_since(token, cursor.offset),
             next: Cursor {
                 offset,
                 line,

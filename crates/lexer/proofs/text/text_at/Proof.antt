@@ -1,12 +1,12 @@
 -- `lexer::text::text_at` meets its contract. Assumes nothing.
 use Prim.Native.Nat.{ℕ}
-use mathlib.Core.Path.{_≡_, sym, _∙_}
+use mathlib.Core.Path.{_≡_, sym, _∙_, ap}
 use mathlib.Core.List.{List}
 use borrow.Author.Needs.{needs}
 use lib.ListN.{length}
 use Rattle.lexer.specs.Cursor.{Valid}
 use Rattle.lexer.specs.Text.{leaves, textTold, tokenText, Reads}
-use Rattle.lexer.specs.Token.{Lexeme, lexeme, refused, readLexeme, found}
+use Rattle.lexer.specs.Token.{Lexeme, lexeme, refused, behindLayout, tokenSince, lexemeSince, spelledTo, found}
 use Rattle.lexer.specs.declared.cursor.Cursor.{Cursor}
 use Rattle.lexer.specs.declared.refusal.Fault.{Fault}
 use Rattle.lexer.specs.declared.text.TextAnswer.the-variants.{Refused}
@@ -18,19 +18,27 @@ use Rattle.lexer.proofs.text.text_at.Statement.{statement}
 use Rattle.lexer.proofs.text.text_at.Tie as tie
 
 module _ (s : List ℕ) (c : Cursor) where
-  told : (d : List ℕ) (l : Lexeme) (w : Fault) → found s c l ≡ Found.Refused w → leaves (Refused w c) d ≡ textTold s c d l
-  unfolding found textTold
+  told : (d : List ℕ) (l : Lexeme) (w : Fault) → found s c l ≡ Found.Refused w → leaves (Refused w c) d ≡ textTold s c d (lexemeSince (c .offset) l)
+  unfolding found textTold lexemeSince
   told d (lexeme t e x) w f = cc
   told d (refused v) w f = cc
 
-  -- the ways out: r is what was found
-  module _ (r : Found) (f : r ≡ found s c (readLexeme File s (c .offset))) where
-    refuse : (d : List ℕ) (w : Fault) → r ≡ Found.Refused w → leaves (Refused w c) d ≡ tokenText s c d
-    refuse d w h = told d (readLexeme File s (c .offset)) w (sym f ∙ h)
+  -- what is found, with the layout before it
+  since : (l : Lexeme) (t : Token) (x : Spelling) (next : Cursor) → found s c l ≡ spelledTo t x next → found s c (lexemeSince (c .offset) l) ≡ spelledTo (tokenSince (c .offset) t) x next
+  unfolding found lexemeSince
+  since (lexeme u e y) t x next f = cc
+  since (refused v) t x next f = cc
 
-    reads : (o : ℕ) (t : Token) (l : ℕ) (x : Spelling) (k : ℕ) → Valid (length s) c → r ≡ Found.Whole o t l x k
-        → Reads s c t x (record { offset = o; line = l; column = k })
-    reads o t l x k v h = record { valid = v; read = sym f ∙ h }
+  -- the ways out: r is what was found
+  module _ (r : Found) (f : r ≡ found s c (behindLayout File s (c .offset))) where
+    refuse : (d : List ℕ) (w : Fault) → r ≡ Found.Refused w → leaves (Refused w c) d ≡ tokenText s c d
+    refuse d w h = told d (behindLayout File s (c .offset)) w (sym f ∙ h)
+
+    reads : (o : ℕ) (t : Token) (l : ℕ) (x : Spelling) (k : ℕ) (u : Token) → Valid (length s) c → r ≡ Found.Whole o t l x k → u ≡ tokenSince (c .offset) t
+        → Reads s c u x (record { offset = o; line = l; column = k })
+    reads o t l x k u v h g =
+        let next : Cursor = record { offset = o; line = l; column = k } in
+        record { valid = v; read = since (behindLayout File s (c .offset)) t x next (sym f ∙ h) ∙ ap (λ (y : Token). spelledTo y x next) (sym g) }
 
 ruleset ways = (refuse, reads, needs)
 
@@ -43,6 +51,9 @@ enum-known-fault c = search ways
 
 enum-known-offset : tie.Need-enum-known-offset
 enum-known-offset c = search ways
+
+token-since-requires : tie.Need-token-since-requires
+token-since-requires c κs = search ways
 
 token-text-requires : tie.Need-token-text-requires
 token-text-requires c κs = search ways
@@ -63,6 +74,7 @@ text-at-spec =
     read-token-requires
     enum-known-fault
     enum-known-offset
+    token-since-requires
     token-text-requires
     returns
     same-length

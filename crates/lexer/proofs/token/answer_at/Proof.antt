@@ -3,7 +3,7 @@ use Prim.Native.Nat.{ℕ}
 use mathlib.Core.Path.{_≡_, refl, sym, _∙_, ap}
 use mathlib.Core.List.{List}
 use borrow.Author.Needs.{needs}
-use Rattle.lexer.specs.Token.{Lexeme, lexeme, refused, readLexeme, answered, found}
+use Rattle.lexer.specs.Token.{Lexeme, lexeme, refused, behindLayout, tokenSince, lexemeSince, readLexeme, answered, found}
 use Rattle.lexer.specs.declared.refusal.Fault.{Fault}
 use Rattle.lexer.specs.declared.cursor.Cursor.{Cursor}
 use Rattle.lexer.specs.declared.token.Token.{Token}
@@ -16,26 +16,26 @@ use Rattle.lexer.proofs.token.answer_at.Tie as tie
 
 -- what the call answers, by what was found
 abbrev told : Cursor → Found → Answer
-told c (Found.Whole o t l y k) = Answer.Read t (record { offset = o; line = l; column = k })
+told c (Found.Whole o t l y k) = Answer.Read (tokenSince (c .offset) t) (record { offset = o; line = l; column = k })
 told c (Found.Refused w) = Answer.Refused w c
 
 module _ (s : List ℕ) (c : Cursor) where
   -- a cursor is what its fields make
-  told-found : (x : Lexeme) → told c (found s c x) ≡ answered s c x
-  unfolding answered found
+  told-found : (x : Lexeme) → told c (found s c x) ≡ answered s c (lexemeSince (c .offset) x)
+  unfolding answered found lexemeSince
   told-found (lexeme t e y) = refl
   told-found (refused w) = refl
 
-  module _ (origin : Source) (r : Found) (f : r ≡ found s c (readLexeme origin s (c .offset))) where
+  module _ (origin : Source) (r : Found) (f : r ≡ found s c (behindLayout origin s (c .offset))) where
     answers : (z : Found) → r ≡ z → told c z ≡ answered s c (readLexeme origin s (c .offset))
-    answers z g = ap (told c) (sym g ∙ f) ∙ told-found (readLexeme origin s (c .offset))
+    answers z g = ap (told c) (sym g ∙ f) ∙ told-found (behindLayout origin s (c .offset))
 
     no-token : (w : Fault) → r ≡ Found.Refused w → Answer.Refused w c ≡ answered s c (readLexeme origin s (c .offset))
     no-token w g = answers (Found.Refused w) g
 
-    read : (o : ℕ) (t : Token) (l : ℕ) (y : Spelling) (k : ℕ) → r ≡ Found.Whole o t l y k
-        → Answer.Read t (record { offset = o; line = l; column = k }) ≡ answered s c (readLexeme origin s (c .offset))
-    read o t l y k g = answers (Found.Whole o t l y k) g
+    read : (o : ℕ) (t : Token) (l : ℕ) (y : Spelling) (k : ℕ) (u : Token) → r ≡ Found.Whole o t l y k → u ≡ tokenSince (c .offset) t
+        → Answer.Read u (record { offset = o; line = l; column = k }) ≡ answered s c (readLexeme origin s (c .offset))
+    read o t l y k u g h = ap (λ (x : Token). Answer.Read x (record { offset = o; line = l; column = k })) h ∙ answers (Found.Whole o t l y k) g
 
 ruleset ways = (no-token, read, needs)
 
@@ -48,6 +48,9 @@ enum-known-fault c = search ways
 
 enum-known-offset : tie.Need-enum-known-offset
 enum-known-offset c = search ways
+
+token-since-requires : tie.Need-token-since-requires
+token-since-requires c κs = search ways
 
 returns : tie.Need-returns
 returns c = search ways
@@ -62,5 +65,6 @@ answer-at-spec =
     read-token-requires
     enum-known-fault
     enum-known-offset
+    token-since-requires
     returns
     returns-2)

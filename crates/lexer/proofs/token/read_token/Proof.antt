@@ -9,7 +9,7 @@ use lib.ListN.{length}
 use Rattle.lexer.specs.Cursor.{moveTo, Valid}
 use Rattle.lexer.specs.Layout.{layoutEnd, moved}
 use Rattle.lexer.specs.Look.{lookahead}
-use Rattle.lexer.specs.Token.{Text, Lexeme, lexeme, refused, lexemeTo, afterLayout, readLexeme, kept, spelledTo, found}
+use Rattle.lexer.specs.Token.{Text, Lexeme, lexeme, refused, lexemeTo, afterLayout, behindLayout, kept, spelledTo, found}
 use Rattle.lexer.specs.declared.refusal.Fault.{Fault}
 use Rattle.lexer.specs.declared.cursor.Cursor.{Cursor}
 use Rattle.lexer.specs.declared.cursor.Moved.{Moved}
@@ -33,7 +33,7 @@ record Layout (s : List ℕ) (c d : Cursor) : Type 0 where
   inside : at < length s
 
 module _ (s : List ℕ) (c : Cursor) (v : Valid (length s) c) (l : Moved) (e : l ≡ moved s c (layoutEnd s (c .offset))) where
-  no-token : (origin : Source) (w : Fault) → l ≡ Moved.Refused w → Found.Refused w ≡ found s c (readLexeme origin s (c .offset))
+  no-token : (origin : Source) (w : Fault) → l ≡ Moved.Refused w → Found.Refused w ≡ found s c (behindLayout origin s (c .offset))
   unfolding afterLayout found moved
   no-token origin w f = go (layoutEnd s (c .offset)) e
     where
@@ -67,7 +67,7 @@ module _ (s : List ℕ) (c : Cursor) (v : Valid (length s) c) (l : Moved) (e : l
           ap (spelledTo u (kept y)) (ap (λ (x : Cursor). moveTo s x n) (t .there) ∙ sym a)
 
     read : (origin : Source) (z : Found) → z ≡ found s d (lexemeTo origin s (d .offset) (ltb (c .offset) (d .offset)) (lookahead s (d .offset)))
-        → z ≡ found s c (readLexeme origin s (c .offset))
+        → z ≡ found s c (behindLayout origin s (c .offset))
     unfolding afterLayout
     read origin z g =
         let t = told in
