@@ -29,11 +29,11 @@ pub enum Phase {
 }
 
 // Where a reading stands between two calls. `window[from..to]` are the bytes at hand, delivered and not yet read, and the cursor is that of the first of
-// them. `layout`: layout was passed since the last token.
+// them. `layout` is where the layout since the last token began: the cursor's own offset where none was passed.
 pub struct Reader {
     pub mode: Mode,
     pub cursor: Cursor,
-    pub layout: bool,
+    pub layout: usize,
     pub from: usize,
     pub to: usize,
     pub phase: Phase,
@@ -64,7 +64,7 @@ pub fn start() -> Reader
             line: 0,
             column: 0,
         },
-        layout: false,
+        layout: 0,
         from: 0,
         to: 0,
         phase: Phase::Open,
@@ -112,6 +112,9 @@ fn is_sound(reader: Reader) -> bool
     if LONGEST < cursor.offset {
         return false;
     }
+    if cursor.offset < reader.layout {
+        return false;
+    }
     is_valid(cursor.offset + (reader.to - reader.from), cursor)
 }
 
@@ -156,7 +159,7 @@ fn fed_by(reader: Reader, to: usize, sum: usize, taken: usize, next: Next) -> Fe
             reader: Reader {
                 mode: Mode::Blank,
                 cursor: behind,
-                layout: false,
+                layout: behind.offset,
                 from: to - (sum - behind.offset),
                 to,
                 phase,

@@ -24,7 +24,6 @@ pub enum Why {
 pub struct Place {
     pub mode: Mode,
     pub cursor: Cursor,
-    pub layout: bool,
     pub why: Why,
 }
 
@@ -57,16 +56,15 @@ fn past_plain(c: Cursor, n: usize) -> Cursor
     }
 }
 
-// Over what stands at hand, from the mode and the cursor on; `layout` says whether some was passed before.
-pub(crate) fn pass_layout(hand: &[u8], mode: Mode, cursor: Cursor, layout: bool) -> Place
+// Over what stands at hand, from the mode and the cursor on.
+pub(crate) fn pass_layout(hand: &[u8], mode: Mode, cursor: Cursor) -> Place
     requires { ⌜ Passable (length (now hand)) cursor ⌝ }
-    ensures { λ r. ⌜ placed cursor (now (hand .entry)) r ≡ pass mode 0 cursor layout (now (hand .entry)) ⌝ }
+    ensures { λ r. ⌜ placed cursor (now (hand .entry)) r ≡ pass mode 0 cursor (now (hand .entry)) ⌝ }
 {
     let mut at = 0;
     let mut left = 0;
     let mut m = mode;
     let mut c = cursor;
-    let mut l = layout;
     while at < hand.len() {
         match turn_ahead(hand, at, left, m, c.offset) {
             Turn::On { mode: next, more } => {
@@ -77,13 +75,11 @@ pub(crate) fn pass_layout(hand: &[u8], mode: Mode, cursor: Cursor, layout: bool)
                 at = end;
                 left = more;
                 m = next;
-                l = true;
             }
             Turn::Start => {
                 return Place {
                     mode: m,
                     cursor: c,
-                    layout: l,
                     why: Why::Starts,
                 };
             }
@@ -91,7 +87,6 @@ pub(crate) fn pass_layout(hand: &[u8], mode: Mode, cursor: Cursor, layout: bool)
                 return Place {
                     mode: m,
                     cursor: c,
-                    layout: l,
                     why: Why::Waits(fault),
                 };
             }
@@ -99,7 +94,6 @@ pub(crate) fn pass_layout(hand: &[u8], mode: Mode, cursor: Cursor, layout: bool)
                 return Place {
                     mode: m,
                     cursor: c,
-                    layout: l,
                     why: Why::Stops(fault),
                 };
             }
@@ -109,7 +103,6 @@ pub(crate) fn pass_layout(hand: &[u8], mode: Mode, cursor: Cursor, layout: bool)
     Place {
         mode: m,
         cursor: c,
-        layout: l,
         why: Why::Waits(fault),
     }
 }

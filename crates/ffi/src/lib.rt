@@ -33,7 +33,7 @@ pub extern "C" fn thrinvage_next_token_text(
     line: usize,
     column: usize,
     scratch: &mut [u8],
-    token: &mut [u64; 11],
+    token: &mut [u64; 12],
 ) -> u32
     ensures { λ r. ⌜ left r (now (scratch .exit)) (now (token .exit)) ≡ textLeaves (nextTokenText (now (text .entry)) (cursorAt offset line column) (now (scratch .entry))) (now (token .entry)) ⌝ }
 {

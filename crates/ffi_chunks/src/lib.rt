@@ -20,7 +20,7 @@ ghost use Rattle.ffi_chunks.specs.State.{fieldsOf, readerOf, givenLeaves
 // What is returned where nothing is certain yet. It is the number of no refusal: those are below 256.
 const MORE: u32 = 256;
 
-fn put_given(given: Given, token: &mut [u64; 8]) -> u32
+fn put_given(given: Given, token: &mut [u64; 9]) -> u32
     ensures { λ r. ⌜ leaves r (now (token .exit)) ≡ givenLeaves given (now (token .entry)) ⌝ }
 {
     match given {
@@ -60,7 +60,7 @@ pub extern "C" fn thrinvage_feed(
     reader: &mut [u64; 12],
     window: &mut [u8; WINDOW],
     chunk: &[u8],
-    token: &mut [u64; 8],
+    token: &mut [u64; 9],
 ) -> u32
     ensures { λ r. ⌜ left (leaves r (now (token .exit))) (now (reader .exit)) (now (window .exit)) ≡ feedingLeaves (feeding (readerOf (now (reader .entry))) (now (window .entry)) (now (chunk .entry))) (now (token .entry)) ⌝ }
 {

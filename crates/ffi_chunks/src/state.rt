@@ -7,7 +7,7 @@ use lexer::Cursor;
 use lexer::Fault;
 use lexer::Refusal;
 ghost use mathlib.Core.Path.{_≡_};
-ghost use Rattle.ffi_chunks.specs.State.{modeNumber, slashOf, layoutNumber, phaseNumber, refusalOfPhase, refusedAt, fieldsOf, knownMode, knownRefusal, knownPhase, modeOf, refusalOf, phaseOf, known, meant, madeUp, readerOf};
+ghost use Rattle.ffi_chunks.specs.State.{modeNumber, slashOf, phaseNumber, refusalOfPhase, refusedAt, fieldsOf, knownMode, knownRefusal, knownPhase, modeOf, refusalOf, phaseOf, known, meant, madeUp, readerOf};
 
 const MODE: usize = 0;
 
@@ -49,15 +49,6 @@ fn slash_of(mode: Mode) -> u64
         Mode::Line => 0,
         Mode::Inside(slash) => slash as u64,
     }
-}
-
-fn layout_number(layout: bool) -> u64
-    ensures { λ r. ⌜ r ≡ layoutNumber layout ⌝ }
-{
-    if layout {
-        return 1;
-    }
-    0
 }
 
 fn phase_number(phase: Phase) -> u64
@@ -103,7 +94,7 @@ pub(crate) fn put_reader(reader: Reader, taken: usize, fields: &mut [u64; 12])
         cursor.offset as u64,
         cursor.line as u64,
         cursor.column as u64,
-        layout_number(reader.layout),
+        reader.layout as u64,
         reader.from as u64,
         reader.to as u64,
         phase_number(phase),
@@ -206,10 +197,7 @@ fn is_known(fields: &[u64; 12]) -> bool
     ensures { λ r. ⌜ r ≡ known (now (fields .entry)) ⌝ }
 {
     if is_mode(fields[MODE], fields[SLASH]) {
-        if fields[LAYOUT] < 2 {
-            return is_phase(fields[PHASE], fields[REFUSAL], fields[REFUSED_AT]);
-        }
-        return false;
+        return is_phase(fields[PHASE], fields[REFUSAL], fields[REFUSED_AT]);
     }
     false
 }
@@ -226,7 +214,7 @@ fn meant_by(fields: &[u64; 12]) -> Reader
             line: fields[LINE] as usize,
             column: fields[COLUMN] as usize,
         },
-        layout: fields[LAYOUT] == 1,
+        layout: fields[LAYOUT] as usize,
         from: fields[FROM] as usize,
         to: fields[TO] as usize,
         phase,
@@ -244,7 +232,7 @@ fn made_up() -> Reader
             line: 0,
             column: 0,
         },
-        layout: false,
+        layout: 0,
         from: 1,
         to: 0,
         phase: Phase::Open,

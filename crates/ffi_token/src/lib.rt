@@ -15,7 +15,7 @@ pub extern "C" fn thrinvage_next_token(
     offset: usize,
     line: usize,
     column: usize,
-    token: &mut [u64; 8],
+    token: &mut [u64; 9],
     source: u32,
 ) -> u32
     ensures { λ r. ⌜ leaves r (now (token .exit)) ≡ answerLeaves (nextToken (sourceOf source) (now (text .entry)) (cursorAt offset line column)) (now (token .entry)) ⌝ }

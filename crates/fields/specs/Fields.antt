@@ -14,6 +14,9 @@ use Rattle.lexer.specs.declared.kind.Kind.{Kind}
 use Rattle.lexer.specs.declared.kind.Kind.the-variants.{Name, Variable, String, Number, Open, OpenCT, Close, OpenList, CloseList, OpenCurly, CloseCurly, HeadTailSeparator, DoubleBar, Comma, End}
 use Rattle.lexer.specs.declared.kind.Value.{Value}
 use Rattle.lexer.specs.declared.kind.Value.the-variants.{Integer, Float as Double, Nothing}
+use Rattle.lexer.specs.declared.layout_call.LayoutAnswer.{LayoutAnswer}
+use Rattle.lexer.specs.declared.layout_call.LayoutKind.{LayoutKind}
+use Rattle.lexer.specs.declared.layout_call.LayoutKind.the-variants.{Blanks, SingleLine, Bracketed}
 use Rattle.lexer.specs.declared.refusal.Fault.{Fault}
 use Rattle.lexer.specs.declared.text.Part.{Part}
 use Rattle.lexer.specs.declared.text.Part.the-variants.{Source, Scratch}
@@ -70,6 +73,12 @@ valueBits Nothing = 0
 valueBits (Integer n) = n
 valueBits (Double x) = bitsOf x
 
+-- enum thrinvage_layout_kind; 0 is that of none
+abbrev pub layoutNumber : LayoutKind → ℕ
+layoutNumber Blanks = 1
+layoutNumber SingleLine = 2
+layoutNumber Bracketed = 3
+
 -- ---- the structs of the header, field by field
 
 -- what each begins with: the cursor behind what was read, and no refusal
@@ -78,7 +87,7 @@ cursorFields c = c .offset ∷ c .line ∷ c .column ∷ 0 ∷ []
 
 -- a token's own
 abbrev pub kindFields : Token → List ℕ
-kindFields t = kindNumber (t .kind) ∷ t .start ∷ valueKind (t .value) ∷ valueBits (t .value) ∷ []
+kindFields t = kindNumber (t .kind) ∷ t .start ∷ valueKind (t .value) ∷ valueBits (t .value) ∷ t .layout ∷ []
 
 -- struct thrinvage_token
 abbrev pub tokenFields : Token → Cursor → List ℕ
@@ -88,6 +97,10 @@ tokenFields t c = cursorFields c ++ kindFields t
 abbrev pub partFields : Part → List ℕ
 partFields (Source a e) = 0 ∷ a ∷ e ∷ []
 partFields (Scratch a e) = 1 ∷ a ∷ e ∷ []
+
+-- struct thrinvage_layout
+abbrev pub layoutFields : ℕ → ℕ → Cursor → List ℕ
+layoutFields kind start c = cursorFields c ++ kind ∷ start ∷ []
 
 -- struct thrinvage_clause
 abbrev pub countFields : ℕ → Cursor → List ℕ
@@ -102,8 +115,14 @@ answerLeaves (Answer.Read t c) d = leaves 0 (sets d 0 (tokenFields t c))
 answerLeaves (Answer.Refused w c) d = refusedFields w d
 
 unfoldable pub answerTextLeaves : TextAnswer → List ℕ → Outcome
-answerTextLeaves (TextAnswer.Read t c p) d = leaves 0 (sets (sets d 0 (tokenFields t c)) 8 (partFields p))
+answerTextLeaves (TextAnswer.Read t c p) d = leaves 0 (sets (sets d 0 (tokenFields t c)) 9 (partFields p))
 answerTextLeaves (TextAnswer.Refused w c) d = refusedFields w d
+
+-- where no layout text is, an empty one of kind 0 is, at the caller's cursor
+unfoldable pub layoutLeaves : LayoutAnswer → List ℕ → Outcome
+layoutLeaves (LayoutAnswer.Read k a c) d = leaves 0 (sets d 0 (layoutFields (layoutNumber k) a c))
+layoutLeaves (LayoutAnswer.Absent c) d = leaves 0 (sets d 0 (layoutFields 0 (c .offset) c))
+layoutLeaves (LayoutAnswer.Refused w c) d = refusedFields w d
 
 -- ---- a function that lends a slice to a call: the slice is left as x, the fields f as g, and r is returned, if the call may answer so and leave x, and r and g
 -- tell this answer. Where two that the call permits coincide, so do two that are left (proofs/Theorems)

@@ -1,10 +1,12 @@
-// The fields of a token, of a token with its text and of a clause, in the order of the structs of `include/thrinvage.h`, for the crates that make up the C
+// The fields of a token, of a token with its text, of a layout text and of a clause, in the order of the structs of `include/thrinvage.h`, for the crates that make up the C
 // interface. Those of a refusal are left as they were, but for its offset. What is public takes an array whose length is in its type and asks for nothing;
-// the private functions serve all three lengths, and ask for the room.
+// the private functions serve all lengths, and ask for the room.
 use lexer::Answer;
 use lexer::Cursor;
 use lexer::Fault;
 use lexer::Kind;
+use lexer::LayoutAnswer;
+use lexer::LayoutKind;
 use lexer::Part;
 use lexer::Source;
 use lexer::TextAnswer;
@@ -14,7 +16,7 @@ use lexer::refusal_number;
 ghost use mathlib.Core.Path.{_≡_};
 ghost use lib.Seq.{sets};
 ghost use Rattle.lexer.specs.Refusal.{numberOf};
-ghost use Rattle.fields.specs.Fields.{leaves, sourceOf, kindNumber, valueKind, valueBits, bitsOf, refusedFields, cursorFields, kindFields, tokenFields, partFields, countFields, answerLeaves, answerTextLeaves, Room};
+ghost use Rattle.fields.specs.Fields.{leaves, sourceOf, kindNumber, valueKind, valueBits, bitsOf, refusedFields, cursorFields, kindFields, tokenFields, partFields, countFields, layoutNumber, layoutFields, answerLeaves, answerTextLeaves, layoutLeaves, Room};
 
 const OFFSET: usize = 0;
 
@@ -32,14 +34,19 @@ const VALUE_KIND: usize = 6;
 
 const VALUE: usize = 7;
 
-const PART: usize = 8;
+const LAYOUT: usize = 8;
 
-const PART_START: usize = 9;
+const PART: usize = 9;
 
-const PART_END: usize = 10;
+const PART_START: usize = 10;
+
+const PART_END: usize = 11;
 
 // Of a clause: the nodes of its tree, or the bytes of its line.
 const COUNT: usize = 4;
+
+// The kind of a layout text that is not there.
+const NO_LAYOUT: u64 = 0;
 
 // What is returned where nothing is refused.
 pub const READ: u32 = 0;
@@ -139,9 +146,9 @@ fn put_cursor(next: Cursor, fields: &mut [u64])
     fields[REFUSED_AT] = 0;
 }
 
-// A token's kind, its start and its value.
+// A token's kind, its start, its value and where the layout before it began.
 fn put_kind(token: Token, fields: &mut [u64])
-    requires { ⌜ Room 8 (now fields) ⌝ }
+    requires { ⌜ Room 9 (now fields) ⌝ }
     ensures { λ _. ⌜ now (fields .exit) ≡ sets (now (fields .entry)) 4 (kindFields token) ⌝ }
 {
     let kind = token.kind;
@@ -153,10 +160,11 @@ fn put_kind(token: Token, fields: &mut [u64])
     fields[START] = token.start as u64;
     fields[VALUE_KIND] = held;
     fields[VALUE] = bits;
+    fields[LAYOUT] = token.layout as u64;
 }
 
 fn put_token(token: Token, next: Cursor, fields: &mut [u64])
-    requires { ⌜ Room 8 (now fields) ⌝ }
+    requires { ⌜ Room 9 (now fields) ⌝ }
     ensures { λ _. ⌜ now (fields .exit) ≡ sets (now (fields .entry)) 0 (tokenFields token next) ⌝ }
 {
     put_cursor(next, fields);
@@ -164,8 +172,8 @@ fn put_token(token: Token, next: Cursor, fields: &mut [u64])
 }
 
 // Where a token's text stands.
-fn put_part(part: Part, fields: &mut [u64; 11])
-    ensures { λ _. ⌜ now (fields .exit) ≡ sets (now (fields .entry)) 8 (partFields part) ⌝ }
+fn put_part(part: Part, fields: &mut [u64; 12])
+    ensures { λ _. ⌜ now (fields .exit) ≡ sets (now (fields .entry)) 9 (partFields part) ⌝ }
 {
     match part {
         Part::Source { start, end } => {
@@ -181,7 +189,7 @@ fn put_part(part: Part, fields: &mut [u64; 11])
     }
 }
 
-pub fn put_answer(answer: Answer, fields: &mut [u64; 8]) -> u32
+pub fn put_answer(answer: Answer, fields: &mut [u64; 9]) -> u32
     ensures { λ r. ⌜ leaves r (now (fields .exit)) ≡ answerLeaves answer (now (fields .entry)) ⌝ }
 {
     match answer {
@@ -193,7 +201,7 @@ pub fn put_answer(answer: Answer, fields: &mut [u64; 8]) -> u32
     }
 }
 
-pub fn put_text(answer: TextAnswer, fields: &mut [u64; 11]) -> u32
+pub fn put_text(answer: TextAnswer, fields: &mut [u64; 12]) -> u32
     ensures { λ r. ⌜ leaves r (now (fields .exit)) ≡ answerTextLeaves answer (now (fields .entry)) ⌝ }
 {
     match answer {
@@ -201,6 +209,43 @@ pub fn put_text(answer: TextAnswer, fields: &mut [u64; 11]) -> u32
         TextAnswer::Read { token, next, part } => {
             put_token(token, next, fields);
             put_part(part, fields);
+            READ
+        }
+    }
+}
+
+// The number of a layout text's kind; 0 is that of none.
+fn layout_number(kind: LayoutKind) -> u64
+    ensures { λ r. ⌜ r ≡ layoutNumber kind ⌝ }
+{
+    match kind {
+        LayoutKind::Blanks => 1,
+        LayoutKind::SingleLine => 2,
+        LayoutKind::Bracketed => 3,
+    }
+}
+
+// What stands between a start and the cursor behind it, by the number of its kind.
+fn put_span(number: u64, start: usize, next: Cursor, fields: &mut [u64; 6])
+    ensures { λ _. ⌜ now (fields .exit) ≡ sets (now (fields .entry)) 0 (layoutFields number start next) ⌝ }
+{
+    put_cursor(next, fields);
+    fields[KIND] = number;
+    fields[START] = start as u64;
+}
+
+// Where no layout text is, an empty span at the caller's cursor is.
+pub fn put_layout(answer: LayoutAnswer, fields: &mut [u64; 6]) -> u32
+    ensures { λ r. ⌜ leaves r (now (fields .exit)) ≡ layoutLeaves answer (now (fields .entry)) ⌝ }
+{
+    match answer {
+        LayoutAnswer::Refused { fault, cursor: _ } => put_refused(fault, fields),
+        LayoutAnswer::Absent { cursor } => {
+            put_span(NO_LAYOUT, cursor.offset, cursor, fields);
+            READ
+        }
+        LayoutAnswer::Read { kind, start, next } => {
+            put_span(layout_number(kind), start, next, fields);
             READ
         }
     }

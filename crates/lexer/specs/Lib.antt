@@ -4,6 +4,7 @@ pub mod Digits
 pub mod Float
 pub mod Items
 pub mod Layout
+pub mod LayoutCall
 pub mod Look
 pub mod Name
 pub mod Nearest

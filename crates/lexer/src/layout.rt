@@ -167,7 +167,7 @@ fn begins_no_layout(b: u8) -> bool
 }
 
 // One layout text.
-fn consume_layout(text: &[u8], cursor: Cursor) -> Layout
+pub(crate) fn consume_layout(text: &[u8], cursor: Cursor) -> Layout
     requires { ⌜ Valid (length (now text)) cursor ⌝ }
     ensures { λ r. ⌜ r ≡ stepped (now (text .entry)) cursor (layoutText (now (text .entry)) (cursor .offset)) ⌝ }
 {

@@ -10,6 +10,8 @@ use lexer::Answer;
 use lexer::Cursor;
 use lexer::Fault;
 use lexer::Kind;
+use lexer::LayoutAnswer;
+use lexer::LayoutKind;
 use lexer::Source;
 use lexer::TextAnswer;
 use lexer::Token;
@@ -70,7 +72,7 @@ fn put_value(out: &mut [u8], filled: usize, value: Value) -> usize {
     }
 }
 
-// What a `token` and a `text` line share: KIND START OFFSET LINE COLUMN.
+// What a `token` and a `text` line begin with: KIND START OFFSET LINE COLUMN.
 fn put_token(out: &mut [u8], filled: usize, token: Token, next: Cursor) -> usize {
     let spaced = put(out, filled, b' ');
     let kind = token.kind;
@@ -79,12 +81,18 @@ fn put_token(out: &mut [u8], filled: usize, token: Token, next: Cursor) -> usize
     put_cursor(out, with_start, next)
 }
 
+// What both end with: where the layout before the token began.
+fn put_layout_start(out: &mut [u8], filled: usize, token: Token) -> usize {
+    let with_layout = put_number(out, filled, token.layout as u64);
+    put(out, with_layout, b'\n')
+}
+
 pub(crate) fn token_line(out: &mut [u8], filled: usize, token: Token, next: Cursor) -> usize {
     let named = put_bytes(out, filled, b"token");
     let with_token = put_token(out, named, token, next);
     let value = token.value;
     let with_value = put_value(out, with_token, value);
-    put(out, with_value, b'\n')
+    put_layout_start(out, with_value, token)
 }
 
 pub(crate) fn refused_line(out: &mut [u8], filled: usize, fault: Fault, cursor: Cursor) -> usize {
@@ -127,12 +135,65 @@ fn token_lines(out: &mut [u8], filled: usize, text: &[u8], cursor: Cursor) -> us
     }
 }
 
+fn put_layout_kind(out: &mut [u8], filled: usize, kind: LayoutKind) -> usize {
+    match kind {
+        LayoutKind::Blanks => put_bytes(out, filled, b"blanks"),
+        LayoutKind::SingleLine => put_bytes(out, filled, b"line_comment"),
+        LayoutKind::Bracketed => put_bytes(out, filled, b"bracketed_comment"),
+    }
+}
+
+// START OFFSET LINE COLUMN of a layout text, behind its kind.
+fn put_span(out: &mut [u8], filled: usize, start: usize, next: Cursor) -> usize {
+    let with_start = put_number(out, filled, start as u64);
+    let with_cursor = put_cursor(out, with_start, next);
+    put(out, with_cursor, b'\n')
+}
+
+// The answer of the layout call. Where no layout text is, an empty one of the kind `none` is told.
+fn layout_line(out: &mut [u8], filled: usize, answer: LayoutAnswer) -> usize {
+    match answer {
+        LayoutAnswer::Read { kind, start, next } => {
+            let named = put_bytes(out, filled, b"layout ");
+            let with_kind = put_layout_kind(out, named, kind);
+            put_span(out, with_kind, start, next)
+        }
+        LayoutAnswer::Absent { cursor } => {
+            let named = put_bytes(out, filled, b"layout none");
+            put_span(out, named, cursor.offset, cursor)
+        }
+        LayoutAnswer::Refused { fault, cursor } => refused_line(out, filled, fault, cursor),
+    }
+}
+
+// Layout calls, each from the cursor that the last one gave, until one gives none or is refused. Each cursor stands behind the one before, so that comes.
+fn layout_lines(out: &mut [u8], filled: usize, text: &[u8], cursor: Cursor) -> usize {
+    let mut at = cursor;
+    let mut now_filled = filled;
+    loop {
+        let answer = lexer::next_layout(text, at);
+        now_filled = layout_line(out, now_filled, answer);
+        match answer {
+            LayoutAnswer::Read {
+                kind: _,
+                start: _,
+                next,
+            } => at = next,
+            LayoutAnswer::Absent { cursor: _ } => return now_filled,
+            LayoutAnswer::Refused {
+                fault: _,
+                cursor: _,
+            } => return now_filled,
+        }
+    }
+}
+
 fn text_line(out: &mut [u8], filled: usize, token: Token, next: Cursor, shown: &[u8]) -> usize {
     let named = put_bytes(out, filled, b"text");
     let with_token = put_token(out, named, token, next);
     let spaced = put(out, with_token, b' ');
     let with_text = put_pairs(out, spaced, shown);
-    put(out, with_text, b'\n')
+    put_layout_start(out, with_text, token)
 }
 
 // The text call and the show call, with this scratch.
@@ -264,6 +325,7 @@ fn answer(
         b't' => answer_line(out, filled, lexer::next_token(text, cursor, Source::File)),
         b'T' => token_lines(out, filled, text, cursor),
         b'n' => answer_line(out, filled, lexer::next_token(text, cursor, Source::Field)),
+        b'b' => layout_lines(out, filled, text, cursor),
         b'x' => text_case(out, filled, text, cursor, room),
         b'c' => clause_case(out, filled, text, cursor, room).filled,
         b'C' => clause_cases(out, filled, text, cursor, room),

@@ -159,6 +159,7 @@ fn is_call(b: u8) -> bool {
     match b {
         b't' => true,
         b'T' => true,
+        b'b' => true,
         b'n' => true,
         b'x' => true,
         b'c' => true,
