@@ -28,6 +28,10 @@ is-valid n c e =
     let r = both (leb n longest) _ (q .0) in
     record { short = leb-true _ _ (r .0); offset = leb-true _ _ (r .1); line = leb-true _ _ (q .1); column = leb-true _ _ (p .1) }
 
+-- by the answer of the code's test
+pub tested-valid : (n : ℕ) (c : Cursor) (t : Bool) → t ≡ valid n c → t ≡ true → Valid n c
+tested-valid n c t e f = is-valid n c (sym e ∙ f)
+
 either : (t : Bool) (a b n : ℕ) → a ≤ n → b ≤ n → cond t a b ≤ n
 either true a b n h k = h
 either false a b n h k = k

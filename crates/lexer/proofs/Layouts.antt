@@ -76,11 +76,11 @@ module _ (s : List ℕ) where
     unfolding layoutTurn
     refused-there w e = items-stop (layoutTexts s) ended s at (Refused w) (nothing-left at) (cc)
 
-    stops-there : layoutText s at ≡ Stop at → layoutEnd s at ≡ Stop at
+    pub stops-there : layoutText s at ≡ Stop at → layoutEnd s at ≡ Stop at
     unfolding layoutTurn
     stops-there e = items-stop (layoutTexts s) ended s at (Stop at) (nothing-left at) (cc (eq-eqb at at refl))
 
-    goes-on : (e : ℕ) → layoutText s at ≡ Stop e → (e ≡ at → ⊥) → layoutEnd s at ≡ layoutEnd s e
+    pub goes-on : (e : ℕ) → layoutText s at ≡ Stop e → (e ≡ at → ⊥) → layoutEnd s at ≡ layoutEnd s e
     unfolding layoutTurn
     goes-on e q n =
         let b : (at ≤ e) × (e ≤ length s) = rw q at (layout-text-ends at) in
@@ -153,7 +153,7 @@ module _ (s : List ℕ) (c : Cursor) where
   later-on d e p q = record { same = p .same ∙ q .same; valid = q .valid; ahead = omega (arith, p .ahead, q .ahead) }
 
   -- the cursor d at e, from where layout ends where it ends from c
-  later : Valid (length s) c → (e : ℕ) → c .offset ≤ e → e ≤ length s → layoutEnd s (c .offset) ≡ layoutEnd s e → (d : Cursor) → d ≡ moveTo s c e → Later s c d
+  pub later : Valid (length s) c → (e : ℕ) → c .offset ≤ e → e ≤ length s → layoutEnd s (c .offset) ≡ layoutEnd s e → (d : Cursor) → d ≡ moveTo s c e → Later s c d
   later v e h k q d m =
       let o : d .offset ≡ e = ap (λ (x : Cursor). x .offset) m ∙ move-offset s c e h k in
       let b = before-between e (length s) (layoutEnd s e) (layout-ends s e) in
@@ -166,15 +166,15 @@ module _ (s : List ℕ) (c : Cursor) where
       }
 
   -- ---- by what one layout text came to
-  record Ends (d : Cursor) : Type 0 where
-    end : ℕ
-    text : layoutText s (c .offset) ≡ Stop end
-    there : d ≡ moveTo s c end
-    ahead : c .offset < end
-    inside : end ≤ length s
+  pub record Ends (d : Cursor) : Type 0 where
+    pub end : ℕ
+    pub text : layoutText s (c .offset) ≡ Stop end
+    pub there : d ≡ moveTo s c end
+    pub ahead : c .offset < end
+    pub inside : end ≤ length s
 
   -- what each outcome tells of the text
-  abbrev Came : Layout → Type 0
+  abbrev pub Came : Layout → Type 0
   Came (Layout.To d) = Ends d
   Came Layout.Absent = layoutText s (c .offset) ≡ Stop (c .offset)
   Came (Layout.Refused w) = layoutText s (c .offset) ≡ Refused w
@@ -190,7 +190,7 @@ module _ (s : List ℕ) (c : Cursor) where
           let b : (c .offset ≤ e) × (e ≤ length s) = rw q at (layout-text-ends s (c .offset)) in
           record { end = e; text = q; there = refl; ahead = (let n = eqb-false e (c .offset) g in omega (arith, n, b .0)); inside = b .1 }
 
-  told : (r : Layout) → stepped s c (layoutText s (c .offset)) ≡ r → Came r
+  pub told : (r : Layout) → stepped s c (layoutText s (c .offset)) ≡ r → Came r
   told r e = rw e at (came (layoutText s (c .offset)) refl)
 
   pub layout-refused : (w : Fault) → stepped s c (layoutText s (c .offset)) ≡ Layout.Refused w → moved s c (layoutEnd s (c .offset)) ≡ Moved.Refused w

@@ -1,4 +1,5 @@
 pub mod Bases
+pub mod Blanks
 pub mod Calls
 pub mod Commas
 pub mod Cursors
@@ -7,6 +8,7 @@ pub mod Faults
 pub mod FirstMark
 pub mod Integers
 pub mod Items
+pub mod LayoutCalls
 pub mod Layouts
 pub mod Looks
 pub mod Marks

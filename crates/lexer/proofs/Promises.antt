@@ -211,40 +211,59 @@ pub record LexemeEnds (s : List ℕ) (from : ℕ) (t : Token) (e : ℕ) : Type 0
   pub ahead : t .start < e
   pub inside : e ≤ length s
 
+-- the token at `at` starts there
+record StartsAt (s : List ℕ) (at : ℕ) (t : Token) (e : ℕ) : Type 0 where
+  starts : t .start ≡ at
+  ahead : at < e
+  inside : e ≤ length s
+
+abbrev There : List ℕ → ℕ → Lexeme → Type 0
+There s at (lexeme t e x) = StartsAt s at t e
+There s at (refused w) = Unit {0}
+
+module _ (s : List ℕ) (at : ℕ) where
+  of-plain : (p : Plain) → PlainEnds s at p → There s at (plainLexeme at p)
+  unfolding plainLexeme
+  of-plain (Plain.Whole k v e) p = record { starts = refl; ahead = p .ahead; inside = p .inside }
+  of-plain (Plain.Refused w) p = tt
+
+  of-quoted : (k : Kind) (q : ℕ) (d : Quoted) → decode q at s (at + 1) ≡ d → There s at (quotedTo k at d)
+  unfolding quotedTo
+  of-quoted k q (Quoted.whole bs e) f =
+      let p = decode-ends q at s (at + 1) bs e f in
+      record { starts = refl; ahead = omega (arith, p .ahead); inside = p .inside }
+  of-quoted k q (Quoted.refused w) f = tt
+
+  of-look : (origin : Source) (layout : Bool) (r : Look) → lookahead s at ≡ r → There s at (lexemeTo origin s at layout r)
+  unfolding lexemeTo quotedLexeme
+  of-look origin layout (Look.Refused w) e = tt
+  of-look origin layout (Look.Byte x) e =
+      by-test (There s at) (is quoteChar x) _ _
+      (λ _. by-test (There s at) (eqb x singleQuote) _ _ (λ _. of-quoted Kind.Name singleQuote _ refl)
+      (λ _. by-test (There s at) (eqb x doubleQuote) _ _ (λ _. of-quoted Kind.String doubleQuote _ refl) (λ _. tt)))
+      (λ _. of-plain (plainToken origin s at layout x) (plain-ends s at x (look-byte s at x e) origin layout))
+
 abbrev Ends : List ℕ → ℕ → Lexeme → Type 0
 Ends s from (lexeme t e x) = LexemeEnds s from t e
 Ends s from (refused w) = Unit {0}
 
-module _ (s : List ℕ) (from at : ℕ) (h : from ≤ at) where
-  of-plain : (p : Plain) → PlainEnds s at p → Ends s from (plainLexeme at p)
-  unfolding plainLexeme
-  of-plain (Plain.Whole k v e) p = record { behind = h; ahead = p .ahead; inside = p .inside }
-  of-plain (Plain.Refused w) p = tt
-
-  of-quoted : (k : Kind) (q : ℕ) (d : Quoted) → decode q at s (at + 1) ≡ d → Ends s from (quotedTo k at d)
-  unfolding quotedTo
-  of-quoted k q (Quoted.whole bs e) f =
-      let p = decode-ends q at s (at + 1) bs e f in
-      record { behind = h; ahead = omega (arith, p .ahead); inside = p .inside }
-  of-quoted k q (Quoted.refused w) f = tt
-
-  of-look : (origin : Source) (layout : Bool) (r : Look) → lookahead s at ≡ r → Ends s from (lexemeTo origin s at layout r)
-  unfolding lexemeTo quotedLexeme
-  of-look origin layout (Look.Refused w) e = tt
-  of-look origin layout (Look.Byte x) e =
-      by-test (Ends s from) (is quoteChar x) _ _
-      (λ _. by-test (Ends s from) (eqb x singleQuote) _ _ (λ _. of-quoted Kind.Name singleQuote _ refl)
-      (λ _. by-test (Ends s from) (eqb x doubleQuote) _ _ (λ _. of-quoted Kind.String doubleQuote _ refl) (λ _. tt)))
-      (λ _. of-plain (plainToken origin s at layout x) (plain-ends s at x (look-byte s at x e) origin layout))
+-- read from an offset at or before it
+there-ends : (s : List ℕ) (from at : ℕ) → from ≤ at → (l : Lexeme) → There s at l → Ends s from l
+there-ends s from at h (lexeme t e x) p = record { behind = omega (arith, p .starts); ahead = omega (arith, p .starts, p .ahead); inside = p .inside }
+there-ends s from at h (refused w) p = tt
 
 -- a token at an offset
-pub token-there : (origin : Source) (layout : Bool) (s : List ℕ) (at : ℕ) (t : Token) (e : ℕ) (x : Text) → lexemeTo origin s at layout (lookahead s at) ≡ lexeme t e x → LexemeEnds s at t e
-token-there origin layout s at t e x f = rw f at (of-look s at at (omega arith) origin layout (lookahead s at) refl)
+module _ (origin : Source) (layout : Bool) (s : List ℕ) (at : ℕ) (t : Token) (e : ℕ) (x : Text) (f : lexemeTo origin s at layout (lookahead s at) ≡ lexeme t e x) where
+  pub token-there : LexemeEnds s at t e
+  token-there = rw f at (there-ends s at at (omega arith) (lexemeTo origin s at layout (lookahead s at)) (of-look s at origin layout (lookahead s at) refl))
+
+  pub token-starts : t .start ≡ at
+  token-starts = let p : There s at (lexeme t e x) = rw f at (of-look s at origin layout (lookahead s at) refl) in p .starts
 
 of-layout : (origin : Source) (s : List ℕ) (from : ℕ) (r : Scan) → Before from (length s) r → Ends s from (afterLayout origin s from r)
 unfolding afterLayout
 of-layout origin s from (Refused w) b = tt
-of-layout origin s from (Stop at) b = of-look s from at (b .0) origin (ltb from at) (lookahead s at) refl
+of-layout origin s from (Stop at) b = there-ends s from at (b .0) (lexemeTo origin s at (ltb from at) (lookahead s at)) (of-look s at origin (ltb from at) (lookahead s at) refl)
 
 -- wherever the layout before it began
 of-since : (s : List ℕ) (from : ℕ) (l : Lexeme) → Ends s from l → Ends s from (lexemeSince from l)

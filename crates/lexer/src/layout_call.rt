@@ -58,10 +58,11 @@ fn past_blanks(text: &[u8], cursor: Cursor) -> Cursor
     while c.offset < text.len() {
         let at = c.offset;
         let b = text[at];
-        if !is_layout(b) {
+        if is_layout(b) {
+            c = skip_char(c, b);
+        } else {
             return c;
         }
-        c = skip_char(c, b);
     }
     c
 }

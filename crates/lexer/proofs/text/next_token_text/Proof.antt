@@ -1,23 +1,20 @@
 -- `lexer::text::next_token_text` meets its contract. Assumes nothing.
 use Prim.Native.Nat.{ℕ}
-use mathlib.Core.Path.{_≡_, sym, _∙_}
+use mathlib.Core.Path.{_≡_}
 use mathlib.Core.Bool.{Bool, true, false}
 use mathlib.Core.List.{List}
 use borrow.Author.Needs.{needs}
 use lib.ListN.{length}
-use Rattle.lexer.specs.Cursor.{valid, Valid}
+use Rattle.lexer.specs.Cursor.{valid}
 use Rattle.lexer.specs.Text.{leaves, tokenText, nextTokenText}
 use Rattle.lexer.specs.Token.{notValid}
 use Rattle.lexer.specs.declared.cursor.Cursor.{Cursor}
 use Rattle.lexer.specs.declared.refusal.Fault.{Fault}
 use Rattle.lexer.specs.declared.text.TextAnswer.{TextAnswer}
 use Rattle.lexer.specs.declared.text.TextAnswer.the-variants.{Refused}
-use Rattle.lexer.proofs.Cursors.{is-valid}
+use Rattle.lexer.proofs.Cursors.{tested-valid}
 use Rattle.lexer.proofs.text.next_token_text.Statement.{statement}
 use Rattle.lexer.proofs.text.next_token_text.Tie as tie
-
-begins : (n : ℕ) (c : Cursor) (b : Bool) → b ≡ valid n c → b ≡ true → Valid n c
-begins n c b v g = is-valid n c (sym v ∙ g)
 
 -- the ways out: b says whether the cursor is valid
 module _ (s : List ℕ) (c : Cursor) (b : Bool) (v : b ≡ valid (length s) c) (d : List ℕ) where
@@ -27,7 +24,7 @@ module _ (s : List ℕ) (c : Cursor) (b : Bool) (v : b ≡ valid (length s) c) (
   not-valid : (w : Fault) → b ≡ false → w ≡ notValid → leaves (Refused w c) d ≡ nextTokenText s c d
   not-valid w g h = cc
 
-ruleset ways = (begins, told, not-valid, needs)
+ruleset ways = (tested-valid, told, not-valid, needs)
 
 -- answers
 is-valid-requires : tie.Need-is-valid-requires

@@ -1,22 +1,19 @@
 -- `lexer::token::next_token` meets its contract. Assumes nothing.
 use Prim.Native.Nat.{ℕ}
-use mathlib.Core.Path.{_≡_, sym, _∙_}
+use mathlib.Core.Path.{_≡_}
 use mathlib.Core.Bool.{Bool, true, false}
 use mathlib.Core.List.{List}
 use borrow.Author.Needs.{needs}
 use lib.ListN.{length}
-use Rattle.lexer.specs.Cursor.{valid, Valid}
+use Rattle.lexer.specs.Cursor.{valid}
 use Rattle.lexer.specs.Token.{readLexeme, answered, notValid, nextToken}
 use Rattle.lexer.specs.declared.refusal.Fault.{Fault}
 use Rattle.lexer.specs.declared.cursor.Cursor.{Cursor}
 use Rattle.lexer.specs.declared.token.Answer.{Answer}
 use Rattle.lexer.specs.declared.token.Source.{Source}
-use Rattle.lexer.proofs.Cursors.{is-valid}
+use Rattle.lexer.proofs.Cursors.{tested-valid}
 use Rattle.lexer.proofs.token.next_token.Statement.{statement}
 use Rattle.lexer.proofs.token.next_token.Tie as tie
-
-begins : (n : ℕ) (c : Cursor) (t : Bool) → t ≡ valid n c → t ≡ true → Valid n c
-begins n c t e f = is-valid n c (sym e ∙ f)
 
 module _ (s : List ℕ) (c : Cursor) (origin : Source) (t : Bool) (e : t ≡ valid (length s) c) where
   read : (r : Answer) → t ≡ true → r ≡ answered s c (readLexeme origin s (c .offset)) → r ≡ nextToken origin s c
@@ -25,7 +22,7 @@ module _ (s : List ℕ) (c : Cursor) (origin : Source) (t : Bool) (e : t ≡ val
   refused : (w : Fault) → t ≡ false → w ≡ notValid → Answer.Refused w c ≡ nextToken origin s c
   refused w f g = cc
 
-ruleset ways = (begins, read, refused, needs)
+ruleset ways = (tested-valid, read, refused, needs)
 
 -- answers
 is-valid-requires : tie.Need-is-valid-requires

@@ -1,23 +1,20 @@
 -- `lexer::token::token_here` meets its contract. Assumes nothing.
 use Prim.Native.Nat.{ℕ}
-use mathlib.Core.Path.{_≡_, sym, _∙_}
+use mathlib.Core.Path.{_≡_}
 use mathlib.Core.Bool.{Bool, true, false}
 use mathlib.Core.List.{List}
 use borrow.Author.Needs.{needs}
 use lib.ListN.{length}
-use Rattle.lexer.specs.Cursor.{valid, Valid}
+use Rattle.lexer.specs.Cursor.{valid}
 use Rattle.lexer.specs.Look.{lookahead}
 use Rattle.lexer.specs.Token.{lexemeTo, answered, notValid, tokenHere}
 use Rattle.lexer.specs.declared.refusal.Fault.{Fault}
 use Rattle.lexer.specs.declared.cursor.Cursor.{Cursor}
 use Rattle.lexer.specs.declared.token.Answer.{Answer}
 use Rattle.lexer.specs.declared.token.Source.the-variants.{File}
-use Rattle.lexer.proofs.Cursors.{is-valid}
+use Rattle.lexer.proofs.Cursors.{tested-valid}
 use Rattle.lexer.proofs.token.token_here.Statement.{statement}
 use Rattle.lexer.proofs.token.token_here.Tie as tie
-
-begins : (n : ℕ) (c : Cursor) (t : Bool) → t ≡ valid n c → t ≡ true → Valid n c
-begins n c t e f = is-valid n c (sym e ∙ f)
 
 module _ (s : List ℕ) (c : Cursor) (layout t : Bool) (e : t ≡ valid (length s) c) where
   read : (r : Answer) → t ≡ true → r ≡ answered s c (lexemeTo File s (c .offset) layout (lookahead s (c .offset))) → r ≡ tokenHere layout s c
@@ -26,7 +23,7 @@ module _ (s : List ℕ) (c : Cursor) (layout t : Bool) (e : t ≡ valid (length 
   refused : (w : Fault) → t ≡ false → w ≡ notValid → Answer.Refused w c ≡ tokenHere layout s c
   refused w f g = cc
 
-ruleset ways = (begins, read, refused, needs)
+ruleset ways = (tested-valid, read, refused, needs)
 
 -- answers
 is-valid-requires : tie.Need-is-valid-requires
