@@ -13,7 +13,7 @@ use Rattle.lexer.specs.declared.cursor.Cursor.{Cursor}
 use Rattle.lexer.specs.declared.token.Token.{Token}
 use Rattle.lexer.specs.declared.token.Answer.{Answer}
 use Rattle.lexer.specs.declared.token.Source.{Source}
-use Rattle.lexer.proofs.Cursors.{is-valid, move-offset, move-valid}
+use Rattle.lexer.proofs.Cursors.{is-valid, move-offset, move-valid, over-bytes}
 use Rattle.lexer.proofs.Promises.{lexeme-ends}
 
 -- the token t was read at the cursor c of the text s, and the cursor d stands behind it
@@ -27,6 +27,14 @@ pub record Promised (s : List ℕ) (c : Cursor) (t : Token) (d : Cursor) : Type 
   pub next : Valid (length s) d
   pub next-passes : valid (length s) d ≡ true
   pub walked : d ≡ walk c (part (c .offset) (d .offset) s)
+
+-- what was read to answer so: the lexeme, which ends at `end`, where d stands
+pub record LexemeRead (origin : Source) (s : List ℕ) (c : Cursor) (t : Token) (d : Cursor) : Type 0 where
+  pub passes : valid (length s) c ≡ true
+  pub end : ℕ
+  pub text : Text
+  pub reads : readLexeme origin s (c .offset) ≡ lexeme t end text
+  pub there : moveTo s c end ≡ d
 
 -- 02, request 8: where the layout before a token began
 since-layout : (from : ℕ) (l : Lexeme) (t : Token) (e : ℕ) (x : Text) → lexemeSince from l ≡ lexeme t e x → t .layout ≡ from
@@ -47,38 +55,37 @@ module _ (origin : Source) (s : List ℕ) (c : Cursor) where
   answer : Bool → Lexeme → Answer
   answer b l = cond b (answered s c l) (Answer.Refused notValid c)
 
-  -- a cursor that was moved walked over the bytes up to where it stands
-  over-bytes : (d : Cursor) (e : ℕ) → moveTo s c e ≡ d → e ≡ d .offset → d ≡ walk c (part (c .offset) (d .offset) s)
-  unfolding moveTo
-  over-bytes d e m o = sym m ∙ ap (λ (n : ℕ). walk c (part (c .offset) n s)) o
-
-  of-answer : (t : Token) (d : Cursor) (b : Bool) (l : Lexeme) → valid (length s) c ≡ b → readLexeme origin s (c .offset) ≡ l → answer b l ≡ Answer.Read t d → Promised s c t d
+  of-answer : (t : Token) (d : Cursor) (b : Bool) (l : Lexeme) → valid (length s) c ≡ b → readLexeme origin s (c .offset) ≡ l → answer b l ≡ Answer.Read t d → LexemeRead origin s c t d
   unfolding answer answered
   of-answer t d false l f g h = let z : _≡_ {A = ℕ} 0 1 = cc in absurd (omega arith)
   of-answer t d true (refused w) f g h = let z : _≡_ {A = ℕ} 0 1 = cc in absurd (omega arith)
-  of-answer t d true (lexeme u e x) f g h =
-      let v = is-valid (length s) c f in
-      let q : u ≡ t = cc in
-      let m : moveTo s c e ≡ d = cc in
-      let p = lexeme-ends origin s (c .offset) t e x (v .offset) (cc) in
-      let k : c .offset ≤ e = omega (arith, p .behind, p .ahead) in
-      let o : e ≡ d .offset = sym (move-offset s c e k (p .inside)) ∙ ap (λ (y : Cursor). y .offset) m in
-      let n : Valid (length s) d = rw m at (move-valid s c e k (p .inside) v) in
-      record {
-        from = v;
-        layout = since-layout (c .offset) (behindLayout origin s (c .offset)) t e x (cc);
-        behind = p .behind;
-        ahead = omega (arith, p .ahead, o);
-        inside = n .offset;
-        further = omega (arith, p .behind, p .ahead, o);
-        next = n;
-        next-passes = passes (length s) d n;
-        walked = over-bytes d e m o;
-      }
+  of-answer t d true (lexeme u e x) f g h = record { passes = f; end = e; text = x; reads = cc; there = cc }
 
-  pub read-promises : (t : Token) (d : Cursor) → nextToken origin s c ≡ Answer.Read t d → Promised s c t d
-  unfolding answer
-  read-promises t d h = of-answer t d (valid (length s) c) (readLexeme origin s (c .offset)) refl refl h
+  module _ (t : Token) (d : Cursor) (h : nextToken origin s c ≡ Answer.Read t d) where
+    pub lexeme-read : LexemeRead origin s c t d
+    unfolding answer
+    lexeme-read = of-answer t d (valid (length s) c) (readLexeme origin s (c .offset)) refl refl h
+
+    pub read-promises : Promised s c t d
+    read-promises =
+        let r = lexeme-read in
+        let e = r .end in
+        let v = is-valid (length s) c (r .passes) in
+        let p = lexeme-ends origin s (c .offset) t e (r .text) (v .offset) (r .reads) in
+        let k : c .offset ≤ e = omega (arith, p .behind, p .ahead) in
+        let o : e ≡ d .offset = sym (move-offset s c e k (p .inside)) ∙ ap (λ (y : Cursor). y .offset) (r .there) in
+        let n : Valid (length s) d = rw (r .there) at (move-valid s c e k (p .inside) v) in
+        record {
+          from = v;
+          layout = since-layout (c .offset) (behindLayout origin s (c .offset)) t e (r .text) (r .reads);
+          behind = p .behind;
+          ahead = omega (arith, p .ahead, o);
+          inside = n .offset;
+          further = omega (arith, p .behind, p .ahead, o);
+          next = n;
+          next-passes = passes (length s) d n;
+          walked = over-bytes s c d e (r .there) o;
+        }
 
   of-refusal : (w : Fault) (d : Cursor) (b : Bool) (l : Lexeme) → answer b l ≡ Answer.Refused w d → d ≡ c
   unfolding answer answered

@@ -104,6 +104,11 @@ module _ (s : List ℕ) (c : Cursor) where
           let o : walk c (part (c .offset) b s) .offset ≡ b = (let w = walk-offset c (part (c .offset) b s) in omega (arith, length-part s (c .offset) b i (omega arith))) in
           rw (part-split s (c .offset) b e i j) (walk-append c (part (c .offset) b s) (part b e s) ∙ ap (λ (n : ℕ). walk (walk c (part (c .offset) b s)) (part n e s)) (sym o))
 
+  -- a cursor that was moved walked over the bytes up to where it stands
+  pub over-bytes : (d : Cursor) (e : ℕ) → moveTo s c e ≡ d → e ≡ d .offset → d ≡ walk c (part (c .offset) (d .offset) s)
+  unfolding moveTo
+  over-bytes d e m o = sym m ∙ ap (λ (n : ℕ). walk c (part (c .offset) n s)) o
+
 -- ---- moving along: no newline on the way
 abbrev pub NoNewline : List ℕ → ℕ → ℕ → Type 0
 NoNewline s a e = (i : ℕ) → a ≤ i → i < e → getD s i 0 ≡ newline → ⊥

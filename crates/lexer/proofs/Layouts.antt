@@ -8,7 +8,7 @@ use native.Mathlib.Omega.{arith}
 use borrow.Author.Tests.{eq-eqb, ne-eqb, eqb-true, eqb-false}
 use lib.Dec.{eqb}
 use lib.ListN.{length, getD, drop, length-drop}
-use Rattle.lexer.specs.Chars.{is, classOf, layoutChar, newline, space, percent, star, slash}
+use Rattle.lexer.specs.Chars.{is, classOf, layoutChar, foreignByte, newline, space, percent, star, slash}
 use Rattle.lexer.specs.Cursor.{moveTo, along, Valid, Along}
 use Rattle.lexer.specs.Items.{stop, on, same}
 use Rattle.lexer.specs.Layout.{singleLineComment, unclosed, commentText, commentOpened, bracketedComment, slashed, layoutTextOf, layoutText, layoutTurn, layoutTexts, ended, layoutEnd, moved, stepped, layoutTo}
@@ -72,7 +72,7 @@ module _ (s : List ℕ) where
   nothing-left at h = cc (drop-end s at h)
 
   module _ (at : ℕ) where
-    refused-there : (w : Fault) → layoutText s at ≡ Refused w → layoutEnd s at ≡ Refused w
+    pub refused-there : (w : Fault) → layoutText s at ≡ Refused w → layoutEnd s at ≡ Refused w
     unfolding layoutTurn
     refused-there w e = items-stop (layoutTexts s) ended s at (Refused w) (nothing-left at) (cc)
 
@@ -218,13 +218,22 @@ module _ (s : List ℕ) (c : Cursor) where
 abbrev pub spacesEnd : List ℕ → ℕ → ℕ
 spacesEnd s at = stretchEnd space space 0 0 s at
 
+-- a layout character is not foreign
+no-foreign : (x : ℕ) → is layoutChar x ≡ true → is foreignByte x ≡ false
+no-foreign x t = cc (eqb-true (classOf x) layoutChar t)
+
 module _ (s : List ℕ) where
+  -- past a layout character layout goes on
+  pub past-blank : (i : ℕ) → i < length s → is layoutChar (getD s i 0) ≡ true → layoutEnd s i ≡ layoutEnd s (i + 1)
+  unfolding front needed layoutTextOf
+  past-blank i h t = let n : is foreignByte (getD s i 0) ≡ false = no-foreign (getD s i 0) t in goes-on s i (i + 1) (cc (drop-at s i h, n, t)) (λ n. omega arith)
+
   past-space : (i : ℕ) → i < length s → inStretch space space 0 0 (getD s i 0) ≡ true → layoutEnd s i ≡ layoutEnd s (i + 1)
-  unfolding front needed classOf layoutTextOf
+  unfolding classOf
   past-space i h e =
       let w = in-stretch space space 0 0 (getD s i 0) e in
       let x : getD s i 0 ≡ space = omega (arith, w .from, w .to) in
-      goes-on s i (i + 1) (cc (drop-at s i h)) (λ n. omega arith)
+      past-blank i h (rw x)
 
   module _ (c : Cursor) (v : Valid (length s) c) (at : ℕ) (q : at ≡ spacesEnd s (c .offset)) where
     ahead : c .offset ≤ at

@@ -1,5 +1,4 @@
 pub mod Bases
-pub mod Blanks
 pub mod Calls
 pub mod Commas
 pub mod Cursors

@@ -1,4 +1,4 @@
--- Document 01's starred specimens of tokens, as one table that antt computes from the definition. Assumes nothing.
+-- Document 01's starred specimens of tokens, and layout texts of March, as tables that antt computes from the definitions. Assumes nothing.
 use Prim.Native.Nat.{ℕ}
 use Prim.Native.Char.{code}
 use Prim.Native.String
@@ -14,11 +14,13 @@ use Rattle.lexer.specs.Digits.{digitOf, digits}
 use Rattle.lexer.specs.Float.{scale, withinLimits}
 use Rattle.lexer.specs.Items.{after, items}
 use Rattle.lexer.specs.Layout.{past, commentOpened, slashed, layoutTextOf, layoutTurn}
+use Rattle.lexer.specs.LayoutCall.{layoutGiven, nextLayout}
 use Rattle.lexer.specs.Look.{front, needed}
 use Rattle.lexer.specs.Name.{runEnd, runToken, nameToken}
 use Rattle.lexer.specs.Number.{radixClosed, radixTo, characterCode, zeroTo, exponentEnds, signTo, letterTo, exponentTo, float, pointTo, integerTo}
 use Rattle.lexer.specs.Quoted.{quoteTo, itemTo}
 use Rattle.lexer.specs.Refusal.{fault}
+use Rattle.lexer.specs.Stretch.{runTo}
 use Rattle.lexer.specs.Token.{floated, valued, numbered, plainToken, token, plainLexeme, lexemeTo, afterLayout, tokenSince, lexemeSince, answered, nextToken}
 use Rattle.lexer.specs.declared.refusal.Refusal.{Refusal}
 use Rattle.lexer.specs.declared.refusal.Refusal.the-variants.{EndOfText, UnclosedComment, OutOfLimit}
@@ -27,6 +29,8 @@ use Rattle.lexer.specs.declared.kind.Kind.the-variants.{Name, Number}
 use Rattle.lexer.specs.declared.kind.Kind.{Kind}
 use Rattle.lexer.specs.declared.kind.Value.{Value}
 use Rattle.lexer.specs.declared.kind.Value.the-variants.{Integer, Float, Nothing}
+use Rattle.lexer.specs.declared.layout_call.LayoutAnswer.{LayoutAnswer}
+use Rattle.lexer.specs.declared.layout_call.LayoutKind.the-variants.{Blanks, SingleLine, Bracketed}
 use Rattle.lexer.specs.declared.token.Answer.{Answer}
 use Rattle.lexer.specs.declared.token.Source.the-variants.{File}
 
@@ -75,3 +79,23 @@ table =
 pub specimens : map (λ (r : Answer × Answer). r .0) table ≡ map (λ (r : Answer × Answer). r .1) table
 unfolding classOf walk moveTo valid digitOf digits scale withinLimits round after items past commentOpened slashed layoutTextOf layoutTurn front needed runEnd runToken nameToken radixClosed radixTo characterCode zeroTo exponentEnds signTo letterTo exponentTo float pointTo integerTo quoteTo itemTo floated valued numbered plainToken plainLexeme lexemeTo afterLayout lexemeSince answered
 specimens = refl
+
+-- the layout call on a text, at an offset
+abbrev layout : ℕ → String → LayoutAnswer
+layout n s = nextLayout (bytes s) (at n)
+
+-- what the definition answers, and what 6.4.1 says
+abbrev pub layouts : List (LayoutAnswer × LayoutAnswer)
+layouts =
+    (layout 0 "  a", LayoutAnswer.Read Blanks 0 (at 2))
+    ∷ (layout 0 "% c", LayoutAnswer.Read SingleLine 0 (at 3))
+    ∷ (layout 0 "/* /* */ a. */", LayoutAnswer.Read Bracketed 0 (at 8))
+    ∷ (layout 8 "/* /* */ a. */", LayoutAnswer.Read Blanks 8 (at 9))
+    ∷ (layout 9 "/* /* */ a. */", LayoutAnswer.Absent (at 9))
+    ∷ (layout 1 " /*/", LayoutAnswer.Refused (fault UnclosedComment 1) (at 1))
+    ∷ (layout 0 "/", LayoutAnswer.Refused (fault EndOfText 1) (at 0))
+    ∷ []
+
+pub layout-specimens : map (λ (r : LayoutAnswer × LayoutAnswer). r .0) layouts ≡ map (λ (r : LayoutAnswer × LayoutAnswer). r .1) layouts
+unfolding classOf walk moveTo valid past commentOpened slashed layoutTextOf front needed runTo layoutGiven
+layout-specimens = refl

@@ -11,10 +11,11 @@ use lib.Dec.{eqb, leb}
 use lib.ListN.{length, getD, drop}
 use Rattle.lexer.specs.Chars.{is, classOf, foreignByte, space, newline}
 use Rattle.lexer.specs.Cursor.{along, moveTo, Valid, Along}
-use Rattle.lexer.specs.Stretch.{inStretch, stretchTo, stretchEnd}
+use Rattle.lexer.specs.Stretch.{runTo, runOf, inStretch, stretchEnd}
 use Rattle.lexer.specs.declared.cursor.Cursor.{Cursor}
 use Rattle.lexer.proofs.Cursors.{both, NoNewline, can-move-along, move-along, move-offset, move-valid}
 use Rattle.lexer.proofs.Looks.{inside-or-not}
+use Rattle.lexer.proofs.Spans.{by-test}
 use Rattle.lexer.proofs.Steps.{drop-at, drop-end}
 use Rattle.lexer.proofs.Table.{agreed}
 
@@ -33,42 +34,81 @@ front s at x xs e = ⊎-elim none here (inside-or-not s at)
     here : at < length s → Front s at x xs
     here h = record { inside = h; it = cc (drop-at s at h); rest = cc (drop-at s at h) }
 
-choose : (P : ℕ → Type 0) (t : Bool) (m n : ℕ) → (t ≡ true → P m) → P n → P (cond t m n)
-choose P true m n f h = f refl
-choose P false m n f h = h
+-- ---- a run of bytes that pass a test
+module _ (passes : ℕ → Bool) (s : List ℕ) where
+  -- what each of its bytes hands on comes to its end
+  module _ (P : ℕ → Type 0) (step : (i : ℕ) → i < length s → passes (getD s i 0) ≡ true → P i → P (i + 1)) where
+    carry : (xs : List ℕ) (at : ℕ) → drop at s ≡ xs → P at → P (runTo passes at xs)
+    unfolding runTo
+    carry [] at e h = h
+    carry (x ∷ xs) at e h = let w = front s at x xs e in by-test P (passes x) _ _ (λ t. carry xs (at + 1) (w .rest) (step at (w .inside) (rw (w .it) t) h)) (λ _. h)
 
--- what each byte of a stretch hands on comes to its end
-module _ (a b p q : ℕ) (s : List ℕ) (P : ℕ → Type 0) (step : (i : ℕ) → i < length s → inStretch a b p q (getD s i 0) ≡ true → P i → P (i + 1)) where
-  carry : (xs : List ℕ) (at : ℕ) → drop at s ≡ xs → P at → P (stretchTo a b p q at xs)
-  unfolding stretchTo
-  carry [] at e h = h
-  carry (x ∷ xs) at e h =
-      let w = front s at x xs e in
-      choose P (inStretch a b p q x) _ _ (λ t. carry xs (at + 1) (w .rest) (step at (w .inside) (rw (w .it) t) h)) h
+    pub run-carry : (at : ℕ) → P at → P (runOf passes s at)
+    run-carry at h = carry (drop at s) at refl h
 
-  pub stretch-carry : (at : ℕ) → P at → P (stretchEnd a b p q s at)
-  stretch-carry at h = carry (drop at s) at refl h
+  -- what is the same before and behind each of its bytes is the same at both its ends
+  pub along-run : {A : Type 0} (f : ℕ → A) → ((i : ℕ) → i < length s → passes (getD s i 0) ≡ true → f i ≡ f (i + 1)) → (at : ℕ) → f at ≡ f (runOf passes s at)
+  along-run f h at = run-carry (λ (n : ℕ). f at ≡ f n) (λ i l t e. e ∙ h i l t) at refl
 
--- what is the same before and behind each byte of a stretch is the same at both its ends
+  pub run-ahead : (at : ℕ) → at ≤ runOf passes s at
+  run-ahead at = run-carry (λ (n : ℕ). at ≤ n) (λ i l t e. omega arith) at (omega arith)
+
+  pub run-inside : (at : ℕ) → at ≤ length s → runOf passes s at ≤ length s
+  run-inside at h = run-carry (λ (n : ℕ). n ≤ length s) (λ i l t e. omega arith) at h
+
+  -- each byte on the way passes
+  pub run-bytes : (at i : ℕ) → at ≤ i → i < runOf passes s at → passes (getD s i 0) ≡ true
+  run-bytes at i h l = run-carry (λ (n : ℕ). i < n → passes (getD s i 0) ≡ true) more at (λ k. absurd (omega arith)) l
+    where
+      more : (j : ℕ) → j < length s → passes (getD s j 0) ≡ true → (i < j → passes (getD s i 0) ≡ true) → i < j + 1 → passes (getD s i 0) ≡ true
+      more j k t f m = go (decLe j i)
+        where
+          go : Dec (j ≤ i) → passes (getD s i 0) ≡ true
+          go (yes n) = let w : i ≡ j = omega arith in rw w t
+          go (no n) = f (omega arith)
+
+  -- and none at its end
+  abbrev Over : ℕ → Type 0
+  Over e = e < length s → passes (getD s e 0) ≡ false
+
+  over : (xs : List ℕ) (at : ℕ) → drop at s ≡ xs → Over (runTo passes at xs)
+  unfolding runTo
+  over [] at e = λ h. let z : _≡_ {A = ℕ} 0 1 = cc (drop-at s at h) in absurd (omega arith)
+  over (x ∷ xs) at e = let w = front s at x xs e in by-test Over (passes x) _ _ (λ _. over xs (at + 1) (w .rest)) (λ t h. ap passes (w .it) ∙ t)
+
+  pub run-no-more : (at : ℕ) → Over (runOf passes s at)
+  run-no-more at = over (drop at s) at refl
+
+  -- past a byte that passes it goes on, before another and with the text it ends
+  module _ (at : ℕ) where
+    pub run-on : at < length s → passes (getD s at 0) ≡ true → runOf passes s at ≡ runOf passes s (at + 1)
+    unfolding runTo
+    run-on h t = cc (drop-at s at h)
+
+    pub run-stops : at < length s → passes (getD s at 0) ≡ false → runOf passes s at ≡ at
+    unfolding runTo
+    run-stops h t = cc (drop-at s at h)
+
+    pub run-ended : length s ≤ at → runOf passes s at ≡ at
+    unfolding runTo
+    run-ended h = cc (drop-end s at h)
+
+-- ---- a stretch
+module _ (a b p q : ℕ) (s : List ℕ) where
+  pub stretch-carry : (P : ℕ → Type 0) → ((i : ℕ) → i < length s → inStretch a b p q (getD s i 0) ≡ true → P i → P (i + 1)) → (at : ℕ) → P at → P (stretchEnd a b p q s at)
+  stretch-carry = run-carry (inStretch a b p q) s
+
+  pub stretch-ahead : (at : ℕ) → at ≤ stretchEnd a b p q s at
+  stretch-ahead = run-ahead (inStretch a b p q) s
+
+  pub stretch-inside : (at : ℕ) → at ≤ length s → stretchEnd a b p q s at ≤ length s
+  stretch-inside = run-inside (inStretch a b p q) s
+
+  pub stretch-bytes : (at i : ℕ) → at ≤ i → i < stretchEnd a b p q s at → inStretch a b p q (getD s i 0) ≡ true
+  stretch-bytes = run-bytes (inStretch a b p q) s
+
 pub along-stretch : {A : Type 0} (f : ℕ → A) (a b p q : ℕ) (s : List ℕ) → ((i : ℕ) → i < length s → inStretch a b p q (getD s i 0) ≡ true → f i ≡ f (i + 1)) → (at : ℕ) → f at ≡ f (stretchEnd a b p q s at)
-along-stretch f a b p q s h at = stretch-carry a b p q s (λ (n : ℕ). f at ≡ f n) (λ i l t e. e ∙ h i l t) at refl
-
-pub stretch-ahead : (a b p q : ℕ) (s : List ℕ) (at : ℕ) → at ≤ stretchEnd a b p q s at
-stretch-ahead a b p q s at = stretch-carry a b p q s (λ (n : ℕ). at ≤ n) (λ i l t e. omega arith) at (omega arith)
-
-pub stretch-inside : (a b p q : ℕ) (s : List ℕ) (at : ℕ) → at ≤ length s → stretchEnd a b p q s at ≤ length s
-stretch-inside a b p q s at h = stretch-carry a b p q s (λ (n : ℕ). n ≤ length s) (λ i l t e. omega arith) at h
-
--- each byte on the way is of the stretch
-pub stretch-bytes : (a b p q : ℕ) (s : List ℕ) (at i : ℕ) → at ≤ i → i < stretchEnd a b p q s at → inStretch a b p q (getD s i 0) ≡ true
-stretch-bytes a b p q s at i h l = stretch-carry a b p q s (λ (n : ℕ). i < n → inStretch a b p q (getD s i 0) ≡ true) more at (λ k. absurd (omega arith)) l
-  where
-    more : (j : ℕ) → j < length s → inStretch a b p q (getD s j 0) ≡ true → (i < j → inStretch a b p q (getD s i 0) ≡ true) → i < j + 1 → inStretch a b p q (getD s i 0) ≡ true
-    more j k t f m = go (decLe j i)
-      where
-        go : Dec (j ≤ i) → inStretch a b p q (getD s i 0) ≡ true
-        go (yes n) = let w : i ≡ j = omega arith in rw w t
-        go (no n) = f (omega arith)
+along-stretch f a b p q s = along-run (inStretch a b p q) s f
 
 -- ---- the bytes of a stretch
 pub record InStretch (a b p q x : ℕ) : Type 0 where

@@ -13,7 +13,8 @@ use Rattle.lexer.specs.Chars.{is, decimalDigit, foreignByte, carriageRet
 use Rattle.lexer.specs.Cursor.{longest, startCursor, walk, part, moveTo, valid, Valid}
 use Rattle.lexer.specs.Digits.{largestMagnitude}
 use Rattle.lexer.specs.Float.{Limits, Scale, scale, over, under, floatValue}
-use Rattle.lexer.specs.Layout.{commentText}
+use Rattle.lexer.specs.Layout.{commentText, layoutEnd, moved}
+use Rattle.lexer.specs.LayoutCall.{nextLayout}
 use Rattle.lexer.specs.Look.{peek, lookahead}
 use Rattle.lexer.specs.Nearest.{Nearest}
 use Rattle.lexer.specs.Number.{numberToken}
@@ -32,6 +33,8 @@ use Rattle.lexer.specs.declared.float.Floated.{Floated}
 use Rattle.lexer.specs.declared.kind.Kind.the-variants.{Name, End}
 use Rattle.lexer.specs.declared.kind.Plain.{Plain}
 use Rattle.lexer.specs.declared.kind.Value.the-variants.{Integer, Nothing}
+use Rattle.lexer.specs.declared.layout_call.LayoutAnswer.{LayoutAnswer}
+use Rattle.lexer.specs.declared.layout_call.LayoutKind.{LayoutKind}
 use Rattle.lexer.specs.declared.number.Numeral.{Numeral}
 use Rattle.lexer.specs.declared.number.NumberToken.{NumberToken}
 use Rattle.lexer.specs.declared.quoted.Item.{Item}
@@ -48,6 +51,8 @@ use Rattle.lexer.proofs.Cursors as Cursors
 use Rattle.lexer.proofs.Faults.{Placed, refusal-placed, placed-inside}
 use Rattle.lexer.proofs.FirstMark.{Clear, First, first-mark, mark-first, clear-end, clear-foreign}
 use Rattle.lexer.proofs.Integers.{within-limit}
+pub use Rattle.lexer.proofs.LayoutCalls.{Is, BlanksTo, LineTo, BracketedTo, LayoutPromised, LayoutAbsent, LayoutRefused, LaidOut, LaidBefore}
+use Rattle.lexer.proofs.LayoutCalls.{layout-says, laid-out, laid-before}
 use Rattle.lexer.proofs.Promises.{LexemeEnds, lexeme-ends}
 use Rattle.lexer.proofs.Refusals.{all, numbers, number-once}
 use Rattle.lexer.proofs.OwnBytes.{own-bytes}
@@ -55,7 +60,8 @@ pub use Rattle.lexer.proofs.Returns.{blank, blanked}
 use Rattle.lexer.proofs.Returns.{or-four, lexeme-same, answer-alike, move-same, mark-before, raw-return, escaped-return, no-return}
 pub use Rattle.lexer.proofs.Sources.{stops, StartsWith}
 use Rattle.lexer.proofs.Sources.{starts-once, sources-alike, source-reaches}
-use Rattle.lexer.proofs.Specimens.{table, specimens}
+use Rattle.lexer.proofs.Specimens as Specimens
+use Rattle.lexer.proofs.Specimens.{table, specimens, layouts}
 pub use Rattle.lexer.proofs.Spellings.{NameText, quoted, unquoted}
 use Rattle.lexer.proofs.Spellings.{name-text}
 use Rattle.lexer.proofs.Steps as Steps
@@ -73,6 +79,10 @@ module _ (s : List ℕ) (c : Cursor) where
   -- the token call, of a file and of a field
   pub token-coincides : (origin : Source) (a b : Answer) → a ≡ nextToken origin s c → b ≡ nextToken origin s c → a ≡ b
   token-coincides origin = coincide (nextToken origin s c)
+
+  -- the layout call
+  pub layout-coincides : (a b : LayoutAnswer) → a ≡ nextLayout s c → b ≡ nextLayout s c → a ≡ b
+  layout-coincides = coincide (nextLayout s c)
 
   -- the text call: its answer, and what it leaves in the scratch d
   pub text-coincides : (d : List ℕ) (a b : TextAnswer) (x y : List ℕ) → leaves a x ≡ nextTokenText s c d → leaves b y ≡ nextTokenText s c d → (a ≡ b) × (x ≡ y)
@@ -144,6 +154,29 @@ module _ (s : List ℕ) (c : Cursor) where
       pub field-ends : nextToken Field s c ≡ answered s c (lexemeSince (c .offset) (plainLexeme at (valued at e n)))
       unfolding numbered
       field-ends = cc (v, source-reaches s c Field at x l d n e f)
+
+-- ---- 02, request 8: an editor "colours layout and comments too and must not work them out for itself"
+module _ (s : List ℕ) (c : Cursor) where
+  -- a layout text that the layout call gives is, to its last byte, what 6.4.1 calls so (`Is`); it begins at the cursor and is not empty, the new cursor stands
+  -- behind it and is valid, and from there layout goes on to where it goes from here
+  pub layout-promises : (k : LayoutKind) (a : ℕ) (next : Cursor) → nextLayout s c ≡ LayoutAnswer.Read k a next → LayoutPromised s c k a next
+  layout-promises k a next f = rw f at (layout-says s c)
+
+  -- where it gives none, layout ends at the cursor
+  pub layout-absent : (back : Cursor) → nextLayout s c ≡ LayoutAnswer.Absent back → LayoutAbsent s c back
+  layout-absent back f = rw f at (layout-says s c)
+
+  -- where it is refused, so is the token call, by the same number at the same offset, and the caller's cursor comes back
+  pub layout-refused : (w : Fault) (back : Cursor) → nextLayout s c ≡ LayoutAnswer.Refused w back → LayoutRefused s c w back
+  layout-refused w back f = rw f at (layout-says s c)
+
+  -- text after text it comes from every valid cursor to where 6.4.1's sequence of layout texts ends, or to its refusal
+  pub layout-laid-out : valid (length s) c ≡ true → LaidOut s c (moved s c (layoutEnd s (c .offset)))
+  layout-laid-out = laid-out s c
+
+  -- before a token: from the cursor, which is where the layout before it began (`token-layout`), to where the token starts
+  pub token-laid-out : (origin : Source) (t : Token) (next : Cursor) → nextToken origin s c ≡ Answer.Read t next → LaidBefore s c t
+  token-laid-out = laid-before s c
 
 -- ---- what the clause reader relies on, besides `token-promises`
 
@@ -278,3 +311,7 @@ module _ (s : List ℕ) (c : Cursor) where
 -- ---- 01: the starred specimens "are proved as a single table"
 pub token-specimens : map (λ (r : Answer × Answer). r .0) table ≡ map (λ (r : Answer × Answer). r .1) table
 token-specimens = specimens
+
+-- and some of the layout call, March's comment among them
+pub layout-specimens : map (λ (r : LayoutAnswer × LayoutAnswer). r .0) layouts ≡ map (λ (r : LayoutAnswer × LayoutAnswer). r .1) layouts
+layout-specimens = Specimens.layout-specimens

@@ -1,13 +1,14 @@
 -- The layout call: 02, request 8, over 6.4.1's layout text. Definitions only.
-use Prim.Native.Nat.{ℕ, _+_}
+use Prim.Native.Nat.{ℕ}
 use mathlib.Core.Path.{_≡_}
 use mathlib.Core.Bool.{cond}
-use mathlib.Core.List.{List, [], _∷_}
+use mathlib.Core.List.{List}
 use lib.Dec.{eqb}
-use lib.ListN.{length, getD, drop}
+use lib.ListN.{length, getD}
 use Rattle.lexer.specs.Chars.{is, layoutChar, percent}
 use Rattle.lexer.specs.Cursor.{moveTo, valid, Valid}
 use Rattle.lexer.specs.Layout.{layoutText, stepped}
+use Rattle.lexer.specs.Stretch.{runOf}
 use Rattle.lexer.specs.Token.{notValid}
 use Rattle.lexer.specs.declared.cursor.Cursor.{Cursor}
 use Rattle.lexer.specs.declared.cursor.Scan.{Scan}
@@ -21,14 +22,9 @@ use Rattle.lexer.specs.declared.layout_call.LayoutAnswer.the-variants.{R
 abbrev pub layoutKind : ℕ → LayoutKind
 layoutKind x = cond (is layoutChar x) Blanks (cond (eqb x percent) SingleLine Bracketed)
 
--- where a run of layout characters ends that starts at `at`, where the list is left of the text
-unfoldable pub blanksEnd : ℕ → List ℕ → ℕ
-blanksEnd at [] = at
-blanksEnd at (x ∷ xs) = cond (is layoutChar x) (blanksEnd (at + 1) xs) at
-
 -- the layout text at `at` ends at e and begins with x; but layout characters are given in a run. -- departs: 6.4.1's layout text is one of them
 abbrev pub givenEnd : List ℕ → ℕ → ℕ → ℕ → ℕ
-givenEnd s at e x = cond (is layoutChar x) (blanksEnd at (drop at s)) e
+givenEnd s at e x = cond (is layoutChar x) (runOf (is layoutChar) s at) e
 
 abbrev pub givenLayout : List ℕ → Cursor → ℕ → ℕ → LayoutAnswer
 givenLayout s c e x = Read (layoutKind x) (c .offset) (moveTo s c (givenEnd s (c .offset) e x))
@@ -38,7 +34,8 @@ unfoldable pub layoutGiven : List ℕ → Cursor → Scan → LayoutAnswer
 layoutGiven s c (Scan.Stop e) = cond (eqb e (c .offset)) (Absent c) (givenLayout s c e (getD s (c .offset) 0))
 layoutGiven s c (Scan.Refused w) = Refused w c
 
--- the layout call: "one layout text at a time .. with its span, or none"; 8 first, as for the token call
+-- the layout call, for an editor that "colours layout and comments too and must not work them out for itself": the layout text at the cursor with its
+-- span, or none; 8 first, as for the token call
 abbrev pub nextLayout : List ℕ → Cursor → LayoutAnswer
 nextLayout s c = cond (valid (length s) c) (layoutGiven s c (layoutText s (c .offset))) (Refused notValid c)
 

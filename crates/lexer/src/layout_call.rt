@@ -8,10 +8,12 @@ use crate::layout::consume_layout;
 use crate::refusal::Fault;
 use crate::token::not_valid;
 ghost use mathlib.Core.Path.{_≡_};
-ghost use lib.ListN.{length, drop};
+ghost use lib.ListN.{length};
+ghost use Rattle.lexer.specs.Chars.{is, layoutChar};
 ghost use Rattle.lexer.specs.Cursor.{Valid, moveTo};
 ghost use Rattle.lexer.specs.Layout.{layoutText};
-ghost use Rattle.lexer.specs.LayoutCall.{layoutKind, blanksEnd, layoutGiven, nextLayout, Given};
+ghost use Rattle.lexer.specs.LayoutCall.{layoutKind, layoutGiven, nextLayout, Given};
+ghost use Rattle.lexer.specs.Stretch.{runOf};
 
 // What a layout text is: layout characters, in a run; a `%` comment; a bracketed comment.
 pub enum LayoutKind {
@@ -52,7 +54,7 @@ fn layout_kind(b: u8) -> LayoutKind
 // Behind the layout characters at the cursor.
 fn past_blanks(text: &[u8], cursor: Cursor) -> Cursor
     requires { ⌜ Valid (length (now text)) cursor ⌝ }
-    ensures { λ r. ⌜ r ≡ moveTo (now (text .entry)) cursor (blanksEnd (cursor .offset) (drop (cursor .offset) (now (text .entry)))) ⌝ }
+    ensures { λ r. ⌜ r ≡ moveTo (now (text .entry)) cursor (runOf (is layoutChar) (now (text .entry)) (cursor .offset)) ⌝ }
 {
     let mut c = cursor;
     while c.offset < text.len() {

@@ -13,8 +13,7 @@ use Rattle.lexer.specs.declared.cursor.Cursor.{Cursor}
 use Rattle.lexer.specs.declared.layout_call.LayoutKind.{LayoutKind}
 use Rattle.lexer.specs.declared.layout_call.LayoutKind.the-variants.{Blanks, SingleLine, Bracketed}
 use Rattle.lexer.specs.declared.layout_call.LayoutAnswer.the-variants.{Read}
-use Rattle.lexer.proofs.Blanks.{runAt}
-use Rattle.lexer.proofs.LayoutCalls.{given, isRun, kind-run, text-there, given-text}
+use Rattle.lexer.proofs.LayoutCalls.{blanksEnd, given, isRun, kind-run, text-there, given-text}
 use Rattle.lexer.proofs.layout_call.layout_given.Statement.{statement}
 use Rattle.lexer.proofs.layout_call.layout_given.Tie as tie
 
@@ -27,10 +26,10 @@ module _ (s : List ℕ) (c next : Cursor) (g : Given s c next) where
 
   -- the ways out: k is the kind
   module _ (k : LayoutKind) (e : k ≡ layoutKind (getD s (c .offset) 0)) where
-    of-kind : (d : Cursor) → d ≡ moveTo s c (cond (isRun k) (runAt s (c .offset)) (text-there s c next (g .text) .end)) → Read k (c .offset) d ≡ given s c
+    of-kind : (d : Cursor) → d ≡ moveTo s c (cond (isRun k) (blanksEnd s (c .offset)) (text-there s c next (g .text) .end)) → Read k (c .offset) d ≡ given s c
     of-kind d m = let r : isRun k ≡ is layoutChar (getD s (c .offset) 0) = ap isRun e ∙ kind-run (getD s (c .offset) 0) in sym (given-text s c next (g .text) ∙ cc (r, e, m))
 
-    blanks : k ≡ Blanks → (d : Cursor) → d ≡ moveTo s c (runAt s (c .offset)) → Read k (c .offset) d ≡ given s c
+    blanks : k ≡ Blanks → (d : Cursor) → d ≡ moveTo s c (blanksEnd s (c .offset)) → Read k (c .offset) d ≡ given s c
     blanks f d m = of-kind d (rw f m)
 
     line : k ≡ SingleLine → Read k (c .offset) next ≡ given s c

@@ -9,13 +9,14 @@ use lib.ListN.{length, getD}
 use Rattle.lexer.specs.Chars.{is, layoutChar}
 use Rattle.lexer.specs.Cursor.{step, moveTo, Valid, Movable}
 use Rattle.lexer.specs.declared.cursor.Cursor.{Cursor}
-use Rattle.lexer.proofs.Blanks.{runAt, run-behind, run-inside, run-on, run-stops, run-ended}
+use Rattle.lexer.proofs.LayoutCalls.{blanksEnd}
 use Rattle.lexer.proofs.Cursors.{move-here, move-step, movable, step-valid}
+use Rattle.lexer.proofs.Stretches.{run-ahead, run-inside, run-on, run-stops, run-ended}
 use Rattle.lexer.proofs.layout_call.past_blanks.Statement.{statement}
 use Rattle.lexer.proofs.layout_call.past_blanks.Tie as tie
 
 record Later (s : List ℕ) (c₀ c : Cursor) : Type 0 where
-  same : moveTo s c₀ (runAt s (c₀ .offset)) ≡ moveTo s c (runAt s (c .offset))
+  same : moveTo s c₀ (blanksEnd s (c₀ .offset)) ≡ moveTo s c (blanksEnd s (c .offset))
   valid : Valid (length s) c
 
 begins : (s : List ℕ) (c : Cursor) → Valid (length s) c → Later s c c
@@ -23,19 +24,19 @@ begins s c v = record { same = refl; valid = v }
 
 module _ (s : List ℕ) (c₀ c : Cursor) (i : Later s c₀ c) where
   -- where the run ends at the cursor
-  stays : runAt s (c .offset) ≡ c .offset → c ≡ moveTo s c₀ (runAt s (c₀ .offset))
+  stays : blanksEnd s (c .offset) ≡ c .offset → c ≡ moveTo s c₀ (blanksEnd s (c₀ .offset))
   stays e = sym (i .same ∙ ap (moveTo s c) e ∙ move-here s c)
 
-  ended : length s ≤ c .offset → c ≡ moveTo s c₀ (runAt s (c₀ .offset))
-  ended h = stays (run-ended s (c .offset) h)
+  ended : length s ≤ c .offset → c ≡ moveTo s c₀ (blanksEnd s (c₀ .offset))
+  ended h = stays (run-ended (is layoutChar) s (c .offset) h)
 
   module _ (h : c .offset < length s) where
     can-skip : Movable c
     can-skip = movable (length s) c (i .valid) h
 
     module _ (t : Bool) (f : t ≡ is layoutChar (getD s (c .offset) 0)) where
-      stops : t ≡ false → c ≡ moveTo s c₀ (runAt s (c₀ .offset))
-      stops g = stays (run-stops s (c .offset) h (sym f ∙ g))
+      stops : t ≡ false → c ≡ moveTo s c₀ (blanksEnd s (c₀ .offset))
+      stops g = stays (run-stops (is layoutChar) s (c .offset) h (sym f ∙ g))
 
       module _ (g : t ≡ true) (d : Cursor) (m : d ≡ step c (getD s (c .offset) 0)) where
         offset-on : d .offset ≡ c .offset + 1
@@ -43,13 +44,13 @@ module _ (s : List ℕ) (c₀ c : Cursor) (i : Later s c₀ c) where
 
         on : Later s c₀ d
         on =
-            let r = run-on s (c .offset) h (sym f ∙ g) in
-            let b = run-behind s (c .offset + 1) in
-            let k = run-inside s (c .offset + 1) (omega arith) in
+            let r = run-on (is layoutChar) s (c .offset) h (sym f ∙ g) in
+            let b = run-ahead (is layoutChar) s (c .offset + 1) in
+            let k = run-inside (is layoutChar) s (c .offset + 1) (omega arith) in
             record {
               same =
-                  i .same ∙ ap (moveTo s c) r ∙ move-step s c (runAt s (c .offset + 1)) (omega (arith, b)) k
-                  ∙ ap (λ (x : Cursor). moveTo s x (runAt s (c .offset + 1))) (sym m) ∙ ap (λ (n : ℕ). moveTo s d (runAt s n)) (sym offset-on);
+                  i .same ∙ ap (moveTo s c) r ∙ move-step s c (blanksEnd s (c .offset + 1)) (omega (arith, b)) k
+                  ∙ ap (λ (x : Cursor). moveTo s x (blanksEnd s (c .offset + 1))) (sym m) ∙ ap (λ (n : ℕ). moveTo s d (blanksEnd s n)) (sym offset-on);
               valid = rw m (step-valid (length s) c (i .valid) (getD s (c .offset) 0) h);
             }
 

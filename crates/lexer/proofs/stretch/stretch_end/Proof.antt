@@ -5,7 +5,7 @@ use mathlib.Core.Bool.{Bool, true, false}
 use mathlib.Core.List.{List}
 use borrow.Author.Needs.{needs}
 use lib.ListN.{length, getD}
-use Rattle.lexer.specs.Stretch.{inStretch, stretchTo, stretchEnd}
+use Rattle.lexer.specs.Stretch.{runTo, inStretch, stretchEnd}
 use Rattle.lexer.proofs.Steps.{drop-at, drop-end}
 use Rattle.lexer.proofs.stretch.stretch_end.Statement.{statement}
 use Rattle.lexer.proofs.stretch.stretch_end.Tie as tie
@@ -15,17 +15,17 @@ Same a b p q s from at = stretchEnd a b p q s from ≡ stretchEnd a b p q s at
 
 module _ (a b p q : ℕ) (s : List ℕ) (from at : ℕ) (i : Same a b p q s from at) where
   ended : length s ≤ at → at ≡ stretchEnd a b p q s from
-  unfolding stretchTo
+  unfolding runTo
   ended h = cc (drop-end s at h)
 
   -- t says whether the byte at `at` is of the stretch
   module _ (t : Bool) (h : at < length s) (e : t ≡ inStretch a b p q (getD s at 0)) where
     stops : t ≡ false → at ≡ stretchEnd a b p q s from
-    unfolding stretchTo
+    unfolding runTo
     stops f = cc (drop-at s at h)
 
     onward : t ≡ true → Same a b p q s from (at + 1)
-    unfolding stretchTo
+    unfolding runTo
     onward f = cc (drop-at s at h)
 
 ruleset ways = (stops, onward, ended, needs)
