@@ -1,6 +1,6 @@
-// The fields of a token, of a token with its text, of a layout text and of a clause, in the order of the structs of `include/thrinvage.h`, for the crates that make up the C
-// interface. Those of a refusal are left as they were, but for its offset. What is public takes an array whose length is in its type and asks for nothing;
-// the private functions serve all lengths, and ask for the room.
+// The fields of a token, of a token with its text, of a layout text and of a clause, in the order of the structs of `include/thrinvage.h`, for the crates
+// that make up the C interface. Those of a refusal are left as they were, but for its offset. What is public takes an array whose length is in its type and
+// asks for nothing; the private functions serve all lengths, and ask for the room.
 use lexer::Answer;
 use lexer::Cursor;
 use lexer::Fault;
@@ -225,12 +225,12 @@ fn layout_number(kind: LayoutKind) -> u64
     }
 }
 
-// What stands between a start and the cursor behind it, by the number of its kind.
-fn put_span(number: u64, start: usize, next: Cursor, fields: &mut [u64; 6])
-    ensures { λ _. ⌜ now (fields .exit) ≡ sets (now (fields .entry)) 0 (layoutFields number start next) ⌝ }
+// What stands between a start and the cursor behind it, and the number of its kind.
+fn put_span(kind: u64, start: usize, next: Cursor, fields: &mut [u64; 6])
+    ensures { λ _. ⌜ now (fields .exit) ≡ sets (now (fields .entry)) 0 (layoutFields kind start next) ⌝ }
 {
     put_cursor(next, fields);
-    fields[KIND] = number;
+    fields[KIND] = kind;
     fields[START] = start as u64;
 }
 

@@ -28,6 +28,9 @@ slice-write-fields-3 c = search ways
 slice-write-fields-4 : tie.Need-slice-write-fields-4
 slice-write-fields-4 c = search ways
 
+slice-write-fields-5 : tie.Need-slice-write-fields-5
+slice-write-fields-5 c = search ways
+
 same-length : tie.Need-same-length
 same-length c = search ways
 
@@ -45,5 +48,6 @@ put-kind-spec =
     slice-write-fields-2
     slice-write-fields-3
     slice-write-fields-4
+    slice-write-fields-5
     same-length
     returns)
