@@ -31,6 +31,7 @@ pub mod Lines
 pub mod Puts
 pub mod Terms
 pub mod Walks
+pub mod Cover
 pub mod Spans
 pub mod LineOutcomes
 pub mod LineFits

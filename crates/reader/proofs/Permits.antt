@@ -17,6 +17,7 @@ use Rattle.reader.specs.Ops.{operators}
 use Rattle.reader.specs.Tree.{Tree, numbers}
 use Rattle.reader.specs.Grammar.{Reads}
 use Rattle.reader.specs.Fault.{FirstFault}
+use Rattle.reader.specs.Cover.{between, allBytes}
 use Rattle.reader.specs.Clause.{mostTokens, whole, clauseTokens, Outcome, invalid, token, noMark, noReading, noRoom, read}
 use Rattle.reader.specs.LineCall as Line
 use Rattle.reader.specs.LineCall.{LineOutcome}
@@ -82,6 +83,11 @@ module _ (s : List ℕ) (c : Cursor) (d : List ℕ) where
 
   pub behind-line : {n : ℕ} {e : Cursor} {x : List ℕ} → LineOutcome s c d (LineAnswer.Read n e) x → Next e
   behind-line (Line.read {ts} {e} v g r l) = behind ts e v g
+
+  -- the records of its tokens cover the bytes up to there
+  pub read-covers : {n : ℕ} {e : Cursor} {x : List ℕ} → Outcome s c d (Read n e) x
+      → (ts : List Token) × (clauseTokens s c ≡ whole ts e) × (allBytes ts ≡ between (c .offset) (e .offset))
+  read-covers (read {ts} {e} v g r m l) = (ts, g, gathered-few mostTokens s c ts e v g .covers)
 
   -- a line that was read fits
   pub fits-line : {n : ℕ} {e : Cursor} {x : List ℕ} → LineOutcome s c d (LineAnswer.Read n e) x → n ≤ length d

@@ -1,4 +1,4 @@
--- The tokens of a clause, one behind the other: how many, their spans, their integers. Assumes nothing.
+-- The tokens of a clause, one behind the other: how many, their spans, the bytes that they cover, their integers. Assumes nothing.
 use Prim.Native.Nat.{ℕ, zero, suc, _+_, _<_, _≤_}
 use mathlib.Core.Path.{_≡_, refl, sym, _∙_, ap, subst}
 use mathlib.Core.Bool.{Bool, true, false, cond}
@@ -19,6 +19,8 @@ use Rattle.reader.specs.Token.{Integer, Token, terminals}
 use Rattle.reader.specs.Clause.{tokenIn, isEnd, Gathered, whole, stopped, tooMany, with, onward, gather}
 use Rattle.reader.specs.Listing.{tokenAt}
 use Rattle.reader.specs.Fault.{Chain, none, more}
+use Rattle.reader.specs.Cover.{between, allBytes}
+use Rattle.reader.proofs.Cover.{covers-none, covers-more}
 use Rattle.reader.proofs.Sights.{Known, known}
 use Rattle.reader.proofs.Turns.{answered-there}
 
@@ -101,6 +103,7 @@ gather-stopped s c n e = ap (λ (x : Lexeme). onward s c x (λ e. gather n s e))
 pub record Few (s : List ℕ) (c : Cursor) (n : ℕ) (ts : List Token) (e : Cursor) : Type 0 where
   pub few : length ts ≤ n
   pub chain : Chain (length s) (c .offset) ts
+  pub covers : allBytes ts ≡ between (c .offset) (e .offset)
   pub told : Told s ts
   pub limited : Limited ts
   pub further : c .offset < e .offset
@@ -130,6 +133,7 @@ module _ (s : List ℕ) (c : Cursor) (v : valid (length s) c ≡ true) (n : ℕ)
           (record {
             few = omega arith;
             chain = more (p .behind) (p .ahead) (none (p .inside));
+            covers = covers-more (tokenIn s t (d .offset) (k .text)) [] (c .offset) (d .offset) (p .layout) (p .behind) (p .ahead) (omega arith) (covers-none (d .offset));
             told = told-known s c t d k n [] (told-none s);
             limited = limited-known s c t d k n [] limited-none;
             further = p .further;
@@ -145,6 +149,7 @@ module _ (s : List ℕ) (c : Cursor) (v : valid (length s) c ≡ true) (n : ℕ)
           (record {
             few = omega (arith, f .few);
             chain = more (p .behind) (p .ahead) (f .chain);
+            covers = covers-more (tokenIn s t (d .offset) (k .text)) (a .0) (c .offset) (e .offset) (p .layout) (p .behind) (p .ahead) (omega (arith, f .further)) (f .covers);
             told = told-known s c t d k n (a .0) (f .told);
             limited = limited-known s c t d k n (a .0) (f .limited);
             further = omega (arith, p .further, f .further);

@@ -188,7 +188,7 @@ each (faulty x n) e = pointed x n (tested deathOf x (died dead n) cc)
 
 -- `unfolding computes` lets the tokens and a run compute
 unfoldable pub computes : Unit {0}
-unfolding classOf walk moveTo digitOf digits after items past commentOpened slashed layoutTextOf layoutTurn front needed runEnd runToken nameToken Number.integerTo Number.pointTo Number.zeroTo quoteTo itemTo withChar itemTurn L.floated L.valued L.numbered L.plainToken L.plainLexeme L.lexemeTo L.afterLayout L.mark L.barTo L.soloTo L.pointTo L.quotedTo L.quotedLexeme gather onward with textIn testOf isLowest terminalAs terminals sameText prePrio preBound prio leftBound rightBound findPre findInf prefixOf infixOf roled kindNumber arity push wide Machine.placeOf Machine.bound Machine.actOf Machine.separates Machine.inside Machine.shuts Machine.emptyKind Machine.see Machine.stopOf Machine.glues Machine.lt? Machine.pushAs Machine.emit Machine.reduce Machine.act Machine.actIf Machine.closing Machine.commaStep Machine.stopStep Machine.infixStep Machine.gluedStep Machine.wantStep Machine.haveStep Machine.prefixAs Machine.prefixStep Machine.opStep Machine.pendStep Machine.begunOn Machine.begunStep Machine.step Machine.run latestFrom isDead
+unfolding classOf walk moveTo digitOf digits after items past commentOpened slashed layoutTextOf layoutTurn front needed runEnd runToken nameToken Number.integerTo Number.pointTo Number.zeroTo quoteTo itemTo withChar itemTurn L.floated L.valued L.numbered L.plainToken L.plainLexeme L.lexemeTo L.afterLayout L.lexemeSince L.mark L.barTo L.soloTo L.pointTo L.quotedTo L.quotedLexeme gather onward with textIn testOf isLowest terminalAs terminals sameText prePrio preBound prio leftBound rightBound findPre findInf prefixOf infixOf roled kindNumber arity push wide Machine.placeOf Machine.bound Machine.actOf Machine.separates Machine.inside Machine.shuts Machine.emptyKind Machine.see Machine.stopOf Machine.glues Machine.lt? Machine.pushAs Machine.emit Machine.reduce Machine.act Machine.actIf Machine.closing Machine.commaStep Machine.stopStep Machine.infixStep Machine.gluedStep Machine.wantStep Machine.haveStep Machine.prefixAs Machine.prefixStep Machine.opStep Machine.pendStep Machine.begunOn Machine.begunStep Machine.step Machine.run latestFrom isDead
 computes = tt
 
 pub specimens : All Holds table

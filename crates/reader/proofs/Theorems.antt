@@ -21,6 +21,7 @@ use Rattle.reader.specs.Admitted.{admits}
 use Rattle.reader.specs.Tree.{NodeKind, negative, kindNumber, Tree, packed, numbers, Has}
 use Rattle.reader.specs.Grammar.{Clause, Reads}
 use Rattle.reader.specs.Fault.{Chain, FirstFault}
+use Rattle.reader.specs.Cover.{between, allBytes}
 use Rattle.reader.specs.Machine.{Out, done, run, start, answer, Numbered}
 use Rattle.reader.specs.Clause.{mostTokens, Gathered, whole, stopped, with, clauseTokens, firstOffset, Outcome}
 use Rattle.reader.specs.Listing.{Within, kindOf, tokenAt, line, Source}
@@ -31,7 +32,7 @@ use Rattle.reader.specs.declared.line_call.LineAnswer.the-variants.{Read
 use Rattle.reader.proofs.LineFits.{line-short, read-whole, refused-anyway}
 use Rattle.reader.proofs.LineOutcomes.{some-line, one-line}
 use Rattle.reader.proofs.Outcomes.{some-outcome, one-outcome}
-use Rattle.reader.proofs.Permits.{never-no-reading, always-no-reading, read-tree, room-reads, behind-clause, behind-line, fits-line}
+use Rattle.reader.proofs.Permits.{never-no-reading, always-no-reading, read-tree, room-reads, behind-clause, behind-line, read-covers, fits-line}
 use Rattle.reader.proofs.Returns.{tokens-alike, outcome-alike}
 use Rattle.reader.proofs.Indexes.{reads-within}
 use Rattle.reader.proofs.Lowest.{reads-negated, reads-bare, plain-below}
@@ -226,6 +227,18 @@ returns-gathered = tokens-alike
 -- So the clause call may answer for the one text what it may answer for the other, and leave the same in the tree slice.
 pub returns-clause : {s d x : List ℕ} {c : Cursor} {a : ClauseAnswer} → Outcome s c d a x → (Outcome (blanked s) c d a x) ⊎ ((o : ℕ) × (a ≡ ClauseAnswer.Refused (fault BadQuoted o) c))
 returns-clause {s} {c = c} = outcome-alike s c
+
+-- ---- 02, request 8: "the records of a clause then cover the bytes from the clause's cursor to the new one, each byte once"
+
+-- So do those of every clause that has its end mark, be it read or refused by 9 or 11. Both sides are in order: no record reaches into another.
+pub clause-covered : (s : List ℕ) (c : Cursor) (ts : List Token) (e : Cursor) → valid (length s) c ≡ true → clauseTokens s c ≡ whole ts e
+    → allBytes ts ≡ between (c .offset) (e .offset)
+clause-covered s c ts e v g = gathered-few mostTokens s c ts e v g .covers
+
+-- A clause that the clause call read is one of them, and the new cursor is the call's.
+pub read-covered : (s : List ℕ) (c : Cursor) (d : List ℕ) {n : ℕ} {e : Cursor} {x : List ℕ} → Outcome s c d (ClauseAnswer.Read n e) x
+    → (ts : List Token) × (clauseTokens s c ≡ whole ts e) × (allBytes ts ≡ between (c .offset) (e .offset))
+read-covered = read-covers
 
 -- ---- names, the table, specimens
 

@@ -65,12 +65,13 @@ module _ (word : NodeKind → ℕ → ℕ) (T : Table) where
 
 -- ---- tokens that close them
 
-abbrev plainly : Kind → ℕ → ℕ → Token
-plainly k a e = record { kind = k; value = Nothing; text = []; start = a; end = e }
+-- with the layout before it from z on
+abbrev plainly : Kind → ℕ → ℕ → ℕ → Token
+plainly k z a e = record { kind = k; value = Nothing; text = []; start = a; end = e; layout = z }
 
 -- a token behind layout, from z on
 abbrev apart : Kind → ℕ → Token
-apart k z = plainly k (z + 1) (z + 2)
+apart k z = plainly k z (z + 1) (z + 2)
 
 closer : Bracket → Kind
 closer top = End
@@ -93,8 +94,8 @@ record Ahead (z : ℕ) (ts : List Token) : Type 0 where
 no-more : (z : ℕ) → Ahead z []
 no-more z = record { bytes = z; stands = none {z = z} (omega arith) }
 
-then : {z a e : ℕ} {ts : List Token} (k : Kind) → z ≤ a → a < e → Ahead e ts → Ahead z (plainly k a e ∷ ts)
-then {z} {a} {e} k l m r = record { bytes = r .bytes; stands = more {z = z} {t = plainly k a e} l m (r .stands) }
+then : {z a e : ℕ} {ts : List Token} (k : Kind) → z ≤ a → a < e → Ahead e ts → Ahead z (plainly k z a e ∷ ts)
+then {z} {a} {e} k l m r = record { bytes = r .bytes; stands = more {z = z} {t = plainly k z a e} l m (r .stands) }
 
 apart-ahead : {z : ℕ} {ts : List Token} (k : Kind) → Ahead (z + 2) ts → Ahead z (apart k z ∷ ts)
 apart-ahead k a = then k (omega arith) (omega arith) a
@@ -159,7 +160,7 @@ module _ (word : NodeKind → ℕ → ℕ) (T : Table) where
   live (iPend {i} {fs} {out} s m p q) h n z =
       let a = closed-here word T (held-closes word T s) (nd i (word call (0 + 1)) ∷ nd (n + 1) (word plain 0) ∷ out) (n + 1 + 1 + 1) (z + 1 + 2 + 2) in
       record {
-        further = plainly OpenCT z (z + 1) ∷ apart Variable (z + 1) ∷ apart Close (z + 1 + 2) ∷ closers (z + 1 + 2 + 2) fs;
+        further = plainly OpenCT z z (z + 1) ∷ apart Variable (z + 1) ∷ apart Close (z + 1 + 2) ∷ closers (z + 1 + 2 + 2) fs;
         out = a .0;
         runs = a .1;
         ahead = then OpenCT (omega arith) (omega arith) (apart-ahead Variable (apart-ahead Close (closers-ahead (z + 1 + 2 + 2) fs)));

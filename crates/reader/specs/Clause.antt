@@ -33,7 +33,7 @@ textIn s at e none = []
 
 -- a token of the clause: the lexer's, which ends at e
 abbrev pub tokenIn : List ℕ → lexer.Token → ℕ → Text → Token
-tokenIn s t e x = record { kind = t .kind; value = t .value; text = textIn s (t .start) e x; start = t .start; end = e }
+tokenIn s t e x = record { kind = t .kind; value = t .value; text = textIn s (t .start) e x; start = t .start; end = e; layout = t .layout }
 
 abbrev pub isEnd : Kind → Bool
 isEnd Name = false

@@ -5,6 +5,7 @@ pub mod Tree
 pub mod Grammar
 pub mod Fault
 pub mod Clause
+pub mod Cover
 pub mod Machine
 pub mod Weight
 pub mod Layout

@@ -9,17 +9,19 @@ pub use Rattle.lexer.specs.declared.kind.Value.{Value}
 pub use Rattle.lexer.specs.declared.kind.Value.the-variants.{Integer, Float, Nothing}
 pub use Rattle.lexer.specs.declared.kind.Kind.the-variants.{Name, Variable, String, Number, Open, OpenCT, Close, OpenList, CloseList, OpenCurly, CloseCurly, HeadTailSeparator, DoubleBar, Comma, End}
 
--- A token: its kind, its value (only a number's counts), its decoded text (only a name's counts), and its span.
+-- A token: its kind, its value (only a number's counts), its decoded text (only a name's counts), its span, and where the layout before it began (02,
+-- request 8; the grammar does not see it).
 pub record Token : Type 0 where
   pub kind : Kind
   pub value : Value
   pub text : List ℕ
   pub start : ℕ
   pub end : ℕ
+  pub layout : ℕ
 
 -- what stands where there is no token
 abbrev pub noToken : Token
-noToken = record { kind = End; value = Nothing; text = []; start = 0; end = 0 }
+noToken = record { kind = End; value = Nothing; text = []; start = 0; end = 0; layout = 0 }
 
 -- What neither starts a term nor is a name.
 pub data Stop : Type 0 where
