@@ -155,7 +155,9 @@ def counted_on(words, cursor):
     offset, line, column = cursor
     count = [int(word) for word in words[2:6]]
     count = [count[0] + offset, count[1] + offset, count[2] + line, count[3] + (0 if count[2] else column)]
-    return words[:2] + [str(number) for number in count] + words[6:]
+    # of a token its value, and where the layout before it began
+    rest = words[6:7] + [str(int(word) + offset) for word in words[7:]]
+    return words[:2] + [str(number) for number in count] + rest
 
 
 class Asking:
