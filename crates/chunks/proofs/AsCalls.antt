@@ -15,7 +15,7 @@ use Rattle.lexer.specs.Float.{floatValue}
 use Rattle.lexer.specs.Layout.{layoutEnd}
 use Rattle.lexer.specs.Number.{numberToken, numberEnd}
 use Rattle.lexer.specs.Refusal.{fault}
-use Rattle.lexer.specs.Token.{Text, Lexeme, lexeme, refused, floated, valued, numbered, plainLexeme, readLexeme, afterLayout, answered, notValid, nextToken}
+use Rattle.lexer.specs.Token.{Text, Lexeme, lexeme, refused, floated, valued, numbered, plainLexeme, afterLayout, lexemeSince, readLexeme, answered, notValid, nextToken}
 use Rattle.lexer.specs.declared.refusal.Fault.{Fault}
 use Rattle.lexer.specs.declared.refusal.Refusal.the-variants.{EndOfText, OutOfLimit, TokenTooLong}
 use Rattle.lexer.specs.declared.cursor.Cursor.{Cursor}
@@ -47,23 +47,24 @@ module _ (s : List ℕ) where
     pub refuses : a ≡ refused fault-there
     pub long : TooLong s c fault-there
 
-  -- what comes next is the token call's, or that
+  -- the token call's, or that, by where layout ends: what comes next
+  abbrev Cases : Cursor → Scan → Type 0
+  Cases c r = (lexemeSince (c .offset) (afterLayout File s (c .offset) r) ≡ lexemeSince (c .offset) (afterLayoutLimited s (c .offset) r)) ⊎ Fifteen c (lexemeSince (c .offset) (afterLayoutLimited s (c .offset) r))
+
   pub next-cases : (c : Cursor) → (readLexeme File s (c .offset) ≡ nextLexeme s (c .offset)) ⊎ Fifteen c (nextLexeme s (c .offset))
-  unfolding afterLayout afterLayoutLimited
+  unfolding afterLayout afterLayoutLimited lexemeSince
   next-cases c = go (layoutEnd s (c .offset)) refl
     where
       by : ℕ → Bool → Lexeme
       by at t = cond t (refused (fault TokenTooLong at)) (tokenAt (ltb (c .offset) at) s at)
 
-      token-cases : (at : ℕ) → layoutEnd s (c .offset) ≡ Stop at → (t : Bool) → longer (ltb (c .offset) at) s at ≡ t → (tokenAt (ltb (c .offset) at) s at ≡ by at t) ⊎ Fifteen c (by at t)
+      token-cases : (at : ℕ) → layoutEnd s (c .offset) ≡ Stop at → (t : Bool) → longer (ltb (c .offset) at) s at ≡ t → (lexemeSince (c .offset) (tokenAt (ltb (c .offset) at) s at) ≡ lexemeSince (c .offset) (by at t)) ⊎ Fifteen c (lexemeSince (c .offset) (by at t))
       token-cases at e true f = inr (record { fault-there = fault TokenTooLong at; refuses = refl; long = record { start = at; starts = e; long = f; refusal = refl } })
       token-cases at e false f = inl refl
 
-      go : (r : Scan) → layoutEnd s (c .offset) ≡ r → (afterLayout File s (c .offset) (layoutEnd s (c .offset)) ≡ afterLayoutLimited s (c .offset) (layoutEnd s (c .offset))) ⊎ Fifteen c (afterLayoutLimited s (c .offset) (layoutEnd s (c .offset)))
-      go (Refused w) e = inl (ap (afterLayout File s (c .offset)) e ∙ sym (ap (afterLayoutLimited s (c .offset)) e))
-      go (Stop at) e =
-          subst (λ (r : Scan). (afterLayout File s (c .offset) r ≡ afterLayoutLimited s (c .offset) r) ⊎ Fifteen c (afterLayoutLimited s (c .offset) r)) (sym e)
-          (token-cases at e (longer (ltb (c .offset) at) s at) refl)
+      go : (r : Scan) → layoutEnd s (c .offset) ≡ r → Cases c (layoutEnd s (c .offset))
+      go (Refused w) e = subst (Cases c) (sym e) (inl refl)
+      go (Stop at) e = subst (Cases c) (sym e) (token-cases at e (longer (ltb (c .offset) at) s at) refl)
 
   -- the token call from a valid cursor
   pub answers : (c : Cursor) → Valid (length s) c → (a : Lexeme) → readLexeme File s (c .offset) ≡ a → nextToken File s c ≡ answered s c a

@@ -35,8 +35,9 @@ pub record Sound (r : Reader) : Type 0 where
 
 pub is-sound : (r : Reader) → sound r ≡ true → Sound r
 is-sound r e =
-    let p = both (leb (r .from) (r .to) && ltb (r .to) windowSize) (valid (delivered r) (r .cursor)) e in
-    let q = both (leb (r .from) (r .to)) (ltb (r .to) windowSize) (p .0) in
+    let p = both (leb (r .from) (r .to) && ltb (r .to) windowSize && leb (r .layout) (r .cursor .offset)) (valid (delivered r) (r .cursor)) e in
+    let o = both (leb (r .from) (r .to) && ltb (r .to) windowSize) (leb (r .layout) (r .cursor .offset)) (p .0) in
+    let q = both (leb (r .from) (r .to)) (ltb (r .to) windowSize) (o .0) in
     record { some = leb-true (r .from) (r .to) (q .0); inside = ltb-true (r .to) windowSize (q .1); valid = is-valid (delivered r) (r .cursor) (p .1) }
 
 -- two tests that hold together
@@ -92,7 +93,7 @@ module _ (r : Reader) (to from sum k : ℕ) where
 
   pub fed-gave : (g : Gives) → Counts from sum g → fedBy r to sum k (toNext g) ≡ gave r to k g
   unfolding toNext fedBy gave
-  fed-gave (handed t d u) q = ap (λ (i : ℕ). record { reader = record { mode = Blank; cursor = d; layout = false; from = i; to = to; phase = r .phase }; taken = k; given = Given.Token t d }) (left-same d u (q .0 .count))
+  fed-gave (handed t d u) q = ap (λ (i : ℕ). record { reader = record { mode = Blank; cursor = d; layout = d .offset; from = i; to = to; phase = r .phase }; taken = k; given = Given.Token t d }) (left-same d u (q .0 .count))
   fed-gave (more m d l u) q = ap (λ (i : ℕ). record { reader = record { mode = m; cursor = d; layout = l; from = i; to = to; phase = r .phase }; taken = k; given = Given.More }) (left-same d u (q .count))
   fed-gave (never w) q = refl
 

@@ -5,11 +5,12 @@ use mathlib.Core.Bool.{Bool, true, false, cond}
 use mathlib.Core.List.{List, [], _∷_, _++_, append-nil}
 use Prim.Native.Nat.{ℕ, zero, suc, _+_, _-_, _<_, _≤_}
 use native.Mathlib.Omega.{arith}
+use lib.Dec.{ltb}
 use lib.ListN.{length, take, drop, length-append, length-drop}
 use lib.Seq.{length-take-le, drop-append-le, take-at, take-all}
 use Rattle.lexer.specs.Cursor.{longest, startCursor, walk, moveTo, Valid}
 use Rattle.lexer.specs.Refusal.{fault}
-use Rattle.lexer.specs.Token.{Text, Lexeme, lexeme, refused, token}
+use Rattle.lexer.specs.Token.{Text, Lexeme, lexeme, refused, tokenSince}
 use Rattle.lexer.specs.declared.refusal.Fault.{Fault}
 use Rattle.lexer.specs.declared.refusal.Refusal.the-variants.{TokenTooLong}
 use Rattle.lexer.specs.declared.cursor.Cursor.{Cursor}
@@ -36,9 +37,9 @@ use Rattle.chunks.proofs.Passing.{Onward, placed-on}
 use Rattle.chunks.proofs.Verdicts.{Right, verdict-right}
 
 -- ---- what is told of a token is what its verdict comes to
-pub told-next : (m : Mode) (c : Cursor) (l : Bool) (v : List ℕ) (k : Verdict) → nextBy m c l (told v k) ≡ toNext (judged m c l v k)
+pub told-next : (m : Mode) (c : Cursor) (l : ℕ) (v : List ℕ) (k : Verdict) → nextBy m c l (told v k) ≡ toNext (judged m c l v k)
 unfolding nextBy told toNext judged
-told-next m c l v (settled (lexeme t e x)) = ap (Next.Token (shiftToken (c .offset) t)) (sym (walk-moved c (take e v)))
+told-next m c l v (settled (lexeme t e x)) = ap (Next.Token (tokenSince l (shiftToken (c .offset) t))) (sym (walk-moved c (take e v)))
 told-next m c l v (settled (refused w)) = refl
 told-next m c l v tooLong = refl
 told-next m c l v waiting = refl
@@ -50,8 +51,10 @@ shift-none : (a : Lexeme) → shiftLexeme 0 a ≡ a
 unfolding shiftLexeme
 shift-none (lexeme t e x) =
     let k : 0 + t .start ≡ t .start = omega arith in
+    let m : 0 + t .layout ≡ t .layout = omega arith in
     let n : 0 + e ≡ e = omega arith in
-    ap (λ (i : ℕ). lexeme (token (t .kind) (t .value) i) (0 + e) x) k ∙ ap (λ (i : ℕ). lexeme t i x) n
+    ap (λ (i : ℕ). lexeme (record { kind = t .kind; value = t .value; start = i; layout = 0 + t .layout }) (0 + e) x) k
+    ∙ ap (λ (i : ℕ). lexeme (tokenSince i t) (0 + e) x) m ∙ ap (λ (i : ℕ). lexeme t i x) n
 shift-none (refused w) = let k : 0 + w .offset ≡ w .offset = omega arith in ap (λ (i : ℕ). refused (fault (w .refusal) i)) k
 
 -- what the verdict says holds of the text that is the bytes at hand
@@ -151,22 +154,22 @@ module _ (s : List ℕ) (p : Place) (from : ℕ) (h : Starting s p from) (at : �
   able : Passable (length (drop at (handOf s))) (p .cursor)
   able = let n = size in record { short = (let k = h .able .short in omega arith); line = h .able .line; column = h .able .column }
 
-  module _ (ended : Bool) (j : Judgement) (f : j ≡ judgeOf (p .layout) ended (handOf rest)) where
-    same : j ≡ judgeOf (p .layout) ended (drop at (handOf s))
-    same = f ∙ ap (λ (u : List ℕ). judgeOf (p .layout) ended (handOf u)) all-there ∙ ap (judgeOf (p .layout) ended) hand-from
+  module _ (layout ended : Bool) (j : Judgement) (f : j ≡ judgeOf layout ended (handOf rest)) where
+    same : j ≡ judgeOf layout ended (drop at (handOf s))
+    same = f ∙ ap (λ (u : List ℕ). judgeOf layout ended (handOf u)) all-there ∙ ap (judgeOf layout ended) hand-from
 
     few-there : length (drop at (handOf s)) < longest
     few-there = let n = size in let k = h .few in let i = h .inside in omega arith
 
     pub start-fits : Fits (p .cursor) j
-    start-fits = subst (Fits (p .cursor)) (sym same) (judgement-fits (p .layout) ended (drop at (handOf s)) some-there (p .cursor) able few-there)
+    start-fits = subst (Fits (p .cursor)) (sym same) (judgement-fits layout ended (drop at (handOf s)) some-there (p .cursor) able few-there)
 
-    pub start-tells : (r : Next) → r ≡ nextBy (p .mode) (p .cursor) (p .layout) j
-        → r ≡ toNext (judged (p .mode) (p .cursor) (p .layout) (drop (p .cursor .offset - from) (handOf s)) (verdict ended (p .layout) (drop (p .cursor .offset - from) (handOf s))))
-    start-tells r g =
-        g ∙ ap (nextBy (p .mode) (p .cursor) (p .layout)) (same ∙ judge-told (p .layout) ended (drop at (handOf s)) some-there few-there)
-        ∙ told-next (p .mode) (p .cursor) (p .layout) (drop at (handOf s)) (verdict ended (p .layout) (drop at (handOf s)))
-        ∙ ap (λ (i : ℕ). toNext (judged (p .mode) (p .cursor) (p .layout) (drop i (handOf s)) (verdict ended (p .layout) (drop i (handOf s))))) e
+    pub start-tells : (l : ℕ) (r : Next) → r ≡ nextBy (p .mode) (p .cursor) l j
+        → r ≡ toNext (judged (p .mode) (p .cursor) l (drop (p .cursor .offset - from) (handOf s)) (verdict ended layout (drop (p .cursor .offset - from) (handOf s))))
+    start-tells l r g =
+        g ∙ ap (nextBy (p .mode) (p .cursor) l) (same ∙ judge-told layout ended (drop at (handOf s)) some-there few-there)
+        ∙ told-next (p .mode) (p .cursor) l (drop at (handOf s)) (verdict ended layout (drop at (handOf s)))
+        ∙ ap (λ (i : ℕ). toNext (judged (p .mode) (p .cursor) l (drop i (handOf s)) (verdict ended layout (drop i (handOf s))))) e
 
 -- ---- layout is passed over, then the token is told
 module _ (s : List ℕ) (c : Cursor) (h : Held s c) (n : ℕ) (e : n ≡ length s - 1) where
@@ -189,12 +192,12 @@ module _ (s : List ℕ) (c : Cursor) (h : Held s c) (n : ℕ) (e : n ≡ length 
   pub held-passable : Passable (length held) c
   held-passable = subst (λ (k : ℕ). Passable k c) (sym held-size) (h .able)
 
-  module _ (m : Mode) (l : Bool) (p : Place) (f : placed c held p ≡ pass m 0 c l held) where
-    passed : pass m 0 c l (handOf s) ≡ stopped (p .mode) (p .cursor) (p .layout) (drop (p .cursor .offset - c .offset) (handOf s)) (p .why)
-    passed = sym (subst (λ (u : List ℕ). placed c u p ≡ pass m 0 c l u) held-hand f)
+  module _ (m : Mode) (p : Place) (f : placed c held p ≡ pass m 0 c held) where
+    passed : pass m 0 c (handOf s) ≡ stopped (p .mode) (p .cursor) (drop (p .cursor .offset - c .offset) (handOf s)) (p .why)
+    passed = sym (subst (λ (u : List ℕ). placed c u p ≡ pass m 0 c u) held-hand f)
 
     onward : Onward c (length (handOf s)) (p .cursor) (drop (p .cursor .offset - c .offset) (handOf s)) (p .why)
-    onward = placed-on m c l (handOf s) p (subst (λ (u : List ℕ). Passable (length u) c) held-hand held-passable) (sym passed)
+    onward = placed-on m c (handOf s) p (subst (λ (u : List ℕ). Passable (length u) c) held-hand held-passable) (sym passed)
 
     hand-size′ : length (handOf s) ≡ length s - 1
     hand-size′ = length-take-le (length s - 1) s (omega arith)
@@ -213,26 +216,26 @@ module _ (s : List ℕ) (c : Cursor) (h : Held s c) (n : ℕ) (e : n ≡ length 
           able = record { short = (let q = o .able .short in omega arith); line = o .able .line; column = o .able .column };
         }
 
-    module _ (ended : Bool) (r : Next) (y : Why) (g : y ≡ p .why) where
+    module _ (l : ℕ) (ended : Bool) (r : Next) (y : Why) (g : y ≡ p .why) where
       -- by what stopped it
-      tells : (z : Why) → y ≡ z → r ≡ toNext (given ended (stopped (p .mode) (p .cursor) (p .layout) (drop (p .cursor .offset - c .offset) (handOf s)) z)) → r ≡ toNext (reading ended m c l (handOf s))
+      tells : (z : Why) → y ≡ z → r ≡ toNext (given ended l (stopped (p .mode) (p .cursor) (drop (p .cursor .offset - c .offset) (handOf s)) z)) → r ≡ toNext (reading ended m c l (handOf s))
       tells z k q =
-          q ∙ sym (ap (λ (x : Passed). toNext (given ended x)) (passed ∙ ap (stopped (p .mode) (p .cursor) (p .layout) (drop (p .cursor .offset - c .offset) (handOf s))) (sym g ∙ k)))
+          q ∙ sym (ap (λ (x : Passed). toNext (given ended l x)) (passed ∙ ap (stopped (p .mode) (p .cursor) (drop (p .cursor .offset - c .offset) (handOf s))) (sym g ∙ k)))
 
       pub held-starts-tells : y ≡ Starts
-          → r ≡ toNext (judged (p .mode) (p .cursor) (p .layout) (drop (p .cursor .offset - c .offset) (handOf s)) (verdict ended (p .layout) (drop (p .cursor .offset - c .offset) (handOf s))))
+          → r ≡ toNext (judged (p .mode) (p .cursor) l (drop (p .cursor .offset - c .offset) (handOf s)) (verdict ended (ltb l (p .cursor .offset)) (drop (p .cursor .offset - c .offset) (handOf s))))
           → r ≡ toNext (reading ended m c l (handOf s))
       unfolding given
       held-starts-tells k q = tells Starts k q
 
-      pub held-waits-tells : (w : Fault) → y ≡ Waits w → r ≡ cond ended (Next.Refused w) (Next.More (p .mode) (p .cursor) (p .layout)) → r ≡ toNext (reading ended m c l (handOf s))
+      pub held-waits-tells : (w : Fault) → y ≡ Waits w → r ≡ cond ended (Next.Refused w) (Next.More (p .mode) (p .cursor) l) → r ≡ toNext (reading ended m c l (handOf s))
       unfolding given toNext
       held-waits-tells w k q = tells (Waits w) k (q ∙ next-by ended _ w)
         where
-          next-by : (t : Bool) (u : List ℕ) (v : Fault) → cond t (Next.Refused v) (Next.More (p .mode) (p .cursor) (p .layout)) ≡ toNext (cond t (never v) (more (p .mode) (p .cursor) (p .layout) u))
+          next-by : (t : Bool) (u : List ℕ) (v : Fault) → cond t (Next.Refused v) (Next.More (p .mode) (p .cursor) l) ≡ toNext (cond t (never v) (more (p .mode) (p .cursor) l u))
           next-by true u v = refl
           next-by false u v = refl
 
-    pub held-stops-tells : (ended : Bool) (y : Why) → y ≡ p .why → (w : Fault) → y ≡ Stops w → Next.Refused w ≡ toNext (reading ended m c l (handOf s))
+    pub held-stops-tells : (l : ℕ) (ended : Bool) (y : Why) → y ≡ p .why → (w : Fault) → y ≡ Stops w → Next.Refused w ≡ toNext (reading ended m c l (handOf s))
     unfolding given toNext
-    held-stops-tells ended y g w k = tells ended (Next.Refused w) y g (Stops w) k refl
+    held-stops-tells l ended y g w k = tells l ended (Next.Refused w) y g (Stops w) k refl

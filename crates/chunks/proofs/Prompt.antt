@@ -5,7 +5,7 @@ use mathlib.Core.Bool.{Bool, true, false, cond}
 use mathlib.Core.List.{List, [], _∷_, _++_, append-nil, append-assoc}
 use Prim.Native.Nat.{ℕ, zero, suc, _+_, _<_, _≤_, min}
 use native.Mathlib.Omega.{arith}
-use borrow.Author.Tests.{eqb-true, lt-ltb, le-ltb}
+use borrow.Author.Tests.{eqb-true, lt-ltb}
 use lib.Dec.{eqb, ltb}
 use lib.ListN.{length, drop, getD, length-append, length-drop, List·getD-append}
 use lib.Seq.{take-length, drop-length, drop-drop, getD-drop, drop-at as drop-seam}
@@ -13,7 +13,7 @@ use Rattle.lexer.specs.Chars.{is, classOf, layoutChar, foreignByte, decimalDigi
 use Rattle.lexer.specs.Cursor.{step, startCursor}
 use Rattle.lexer.specs.Number.{numberToken, numberEnd}
 use Rattle.lexer.specs.Refusal.{fault}
-use Rattle.lexer.specs.Token.{numbered, Lexeme, lexeme, refused}
+use Rattle.lexer.specs.Token.{numbered, Lexeme, lexeme, refused, lexemeSince}
 use Rattle.lexer.specs.declared.refusal.Fault.{Fault}
 use Rattle.lexer.specs.declared.refusal.Refusal.the-variants.{EndOfText, UnclosedComment, ForeignByte, TokenTooLong}
 use Rattle.lexer.specs.declared.cursor.Cursor.{Cursor}
@@ -38,7 +38,7 @@ use Rattle.chunks.proofs.Hands.{hand-right}
 use Rattle.chunks.proofs.Kept.{Near, Shows}
 use Rattle.chunks.proofs.Layouts.{turn-tells, rest-there}
 use Rattle.chunks.proofs.Passing.{Onward, pass-onward}
-use Rattle.chunks.proofs.Reading.{Stands, PassTold, pass-told, refused-there, starts-there, Tells, reading-tells}
+use Rattle.chunks.proofs.Reading.{Stands, PassTold, passed-told, refused-there, starts-there, Tells, reading-tells}
 use Rattle.chunks.proofs.Tokens.{LexemeKept, LexemeUpto, lexeme-kept}
 use Rattle.chunks.proofs.Verdicts.{Right, none-end, is-shown, is-short}
 use Rattle.chunks.proofs.Windows.{end-other, cut-length, cut-byte, shows-cut, shows-end, came-hit, near-gone, digit-token, numbered-hit, plain-hit}
@@ -159,25 +159,25 @@ turn-other (inside o) at (x ∷ xs) = by-test (Other (x ∷ xs)) (is foreignByte
 
 -- where the passing waits, its last turn waits
 abbrev LastTurn : Passed → Type 0
-LastTurn (stopped m c l u starts) = Unit {0}
-LastTurn (stopped m c l u (waits w)) = turn m (c .offset) u ≡ wait w
-LastTurn (stopped m c l u (stops w)) = Unit {0}
+LastTurn (stopped m c u starts) = Unit {0}
+LastTurn (stopped m c u (waits w)) = turn m (c .offset) u ≡ wait w
+LastTurn (stopped m c u (stops w)) = Unit {0}
 
 -- one turn of the passing
-one-turn : (m : Mode) (c : Cursor) (l : Bool) (x : ℕ) (xs : List ℕ) → ((m′ : Mode) (k : ℕ) → LastTurn (pass m′ k (step c x) true xs))
-    → (t : Turn) → turn m (c .offset) (x ∷ xs) ≡ t → LastTurn (carried t (λ m′ k. pass m′ k (step c x) true xs) (stopped m c l (x ∷ xs)))
+one-turn : (m : Mode) (c : Cursor) (x : ℕ) (xs : List ℕ) → ((m′ : Mode) (k : ℕ) → LastTurn (pass m′ k (step c x) xs))
+    → (t : Turn) → turn m (c .offset) (x ∷ xs) ≡ t → LastTurn (carried t (λ m′ k. pass m′ k (step c x) xs) (stopped m c (x ∷ xs)))
 unfolding carried
-one-turn m c l x xs next (on m′ k) e = next m′ k
-one-turn m c l x xs next start e = tt
-one-turn m c l x xs next (wait w) e = e
-one-turn m c l x xs next (stop w) e = tt
+one-turn m c x xs next (on m′ k) e = next m′ k
+one-turn m c x xs next start e = tt
+one-turn m c x xs next (wait w) e = e
+one-turn m c x xs next (stop w) e = tt
 
 -- and so all of them
-last-turn : (u : List ℕ) (m : Mode) (k : ℕ) (c : Cursor) (l : Bool) → LastTurn (pass m k c l u)
+last-turn : (u : List ℕ) (m : Mode) (k : ℕ) (c : Cursor) → LastTurn (pass m k c u)
 unfolding pass ahead carried turn
-last-turn [] m k c l = refl
-last-turn (x ∷ xs) m (suc k) c l = last-turn xs m k (step c x) true
-last-turn (x ∷ xs) m zero c l = one-turn m c l x xs (λ m′ k. last-turn xs m′ k (step c x) true) (turn m (c .offset) (x ∷ xs)) refl
+last-turn [] m k c = refl
+last-turn (x ∷ xs) m (suc k) c = last-turn xs m k (step c x)
+last-turn (x ∷ xs) m zero c = one-turn m c x xs (λ m′ k. last-turn xs m′ k (step c x)) (turn m (c .offset) (x ∷ xs)) refl
 
 -- ---- a wait in a token
 
@@ -302,7 +302,7 @@ pub never-ended : {A : Type 0} → false ≡ true → A
 never-ended e = let y : _≡_ {A = ℕ} 0 1 = cc in absurd (omega arith)
 
 -- more is asked for with the bytes at hand where the passing stopped, and, at a token, where the verdict waits
-module _ (m : Mode) (c : Cursor) (l : Bool) (u : List ℕ) (m′ : Mode) (c′ : Cursor) (l′ : Bool) (u′ : List ℕ) where
+module _ (m : Mode) (c : Cursor) (l : ℕ) (u : List ℕ) (m′ : Mode) (c′ : Cursor) (l′ : ℕ) (u′ : List ℕ) where
   asked : more m c l u ≡ more m′ c′ l′ u′ → u ≡ u′
   asked q = cc
 
@@ -317,26 +317,27 @@ module _ (m : Mode) (c : Cursor) (l : Bool) (u : List ℕ) (m′ : Mode) (c′ :
   never-more w q = let y : _≡_ {A = ℕ} 0 1 = cc in omega arith
 
 -- a text that has the unknown byte behind what is at hand is refused there
-module _ (s : List ℕ) (o : Cursor) (r : List ℕ) (m′ : Mode) (c′ : Cursor) (l′ : Bool) (u′ : List ℕ) (few : length u′ < longestToken + 1) where
-  given-refused : (q : Passed) → PassTold s o (unknown ∷ r) q → LastTurn q → given false q ≡ more m′ c′ l′ u′ → (k : ℕ) → length s ≡ k + suc (length r) → nextLexeme s (o .offset) ≡ refused (fault ForeignByte k)
-  unfolding given
-  given-refused (stopped m c l u starts) p t e k n =
-      let g = judged-more m c l u m′ c′ l′ u′ (verdict false l u) e in
+module _ (s : List ℕ) (o : Cursor) (r : List ℕ) (m′ : Mode) (c′ : Cursor) (l′ : ℕ) (u′ : List ℕ) (few : length u′ < longestToken + 1) where
+  given-refused : (q : Passed) → PassTold s o (unknown ∷ r) q → LastTurn q → given false (o .offset) q ≡ more m′ c′ l′ u′ → (k : ℕ) → length s ≡ k + suc (length r) → nextLexeme s (o .offset) ≡ refused (fault ForeignByte k)
+  unfolding given lexemeSince
+  given-refused (stopped m c u starts) p t e k n =
+      let layout = ltb (o .offset) (c .offset) in
+      let g = judged-more m c (o .offset) u m′ c′ l′ u′ (verdict false layout u) e in
       let f : length u < longestToken + 1 = subst (λ (x : List ℕ). length x < longestToken + 1) (sym (g .1)) few in
       let b : length (drop (c .offset) s) ≡ length u + suc (length r) = ap length (p .0 .hand) ∙ length-append u (unknown ∷ r) in
       let a = length-drop (c .offset) s in
       let h = p .0 .inside in
       let i : c .offset + length u ≡ k = omega arith in
-      starts-there s o (unknown ∷ r) false never-ended m c l u (p .0) (p .1 .1)
-      ∙ limited-hit l (c .offset) u (came-there l u f (g .0)) s r (p .0 .hand) h f ∙ ap (λ (j : ℕ). refused (fault ForeignByte j)) i
-  given-refused (stopped m c l u (waits w)) p t e k n =
+      starts-there s o (unknown ∷ r) false never-ended m c u (p .0) (p .1 .1)
+      ∙ ap (lexemeSince (o .offset)) (limited-hit layout (c .offset) u (came-there layout u f (g .0)) s r (p .0 .hand) h f) ∙ ap (λ (j : ℕ). refused (fault ForeignByte j)) i
+  given-refused (stopped m c u (waits w)) p t e k n =
       let b : length (drop (c .offset) s) ≡ length u + suc (length r) = ap length (p .0 .hand) ∙ length-append u (unknown ∷ r) in
       let a = length-drop (c .offset) s in
       let h = p .0 .inside in
       let i : c .offset + length u ≡ k = omega arith in
       let open-there : Open s m (c .offset) u (wait w) = subst (Open s m (c .offset) u) t (turn-open s (c .offset) r m u (p .0 .hand)) in
-      refused-there s o (unknown ∷ r) false never-ended m c l u (fault ForeignByte (c .offset + length u)) (p .0) open-there ∙ ap (λ (j : ℕ). refused (fault ForeignByte j)) i
-  given-refused (stopped m c l u (stops w)) p t e k n = absurd (never-more m c l u m′ c′ l′ u′ w e)
+      refused-there s o (unknown ∷ r) false never-ended m c u (fault ForeignByte (c .offset + length u)) (p .0) open-there ∙ ap (λ (j : ℕ). refused (fault ForeignByte j)) i
+  given-refused (stopped m c u (stops w)) p t e k n = absurd (never-more m c (o .offset) u m′ c′ l′ u′ w e)
 
 -- a token's refusal for a foreign byte points into the text
 token-inside : (layout : Bool) (s : List ℕ) (at k : ℕ) → at ≤ length s → tokenAt layout s at ≡ refused (fault ForeignByte k) → k < length s
@@ -370,32 +371,33 @@ limited-inside : (layout : Bool) (s : List ℕ) (at k : ℕ) → at ≤ length s
 limited-inside layout s at k h =
     by-test (λ (x : Lexeme). x ≡ refused (fault ForeignByte k) → k < length s) (longer layout s at) _ _ (λ _ q. absurd (long-other (same-fault (fault TokenTooLong at) (fault ForeignByte k) q refl))) (λ _ q. token-inside layout s at k h q)
 
+-- wherever the layout before it began
+since-refused : (from : ℕ) (a : Lexeme) (w : Fault) → lexemeSince from a ≡ refused w → a ≡ refused w
+unfolding lexemeSince
+since-refused from (lexeme t e x) w q = let y : _≡_ {A = ℕ} 0 1 = cc in absurd (omega arith)
+since-refused from (refused v) w q = q
+
 -- a text that ends behind what is at hand is not refused there for a foreign byte
-module _ (s : List ℕ) (o : Cursor) (m′ : Mode) (c′ : Cursor) (l′ : Bool) (u′ : List ℕ) where
-  given-ended : (q : Passed) → PassTold s o [] q → LastTurn q → given false q ≡ more m′ c′ l′ u′ → nextLexeme s (o .offset) ≡ refused (fault ForeignByte (length s)) → ⊥
+module _ (s : List ℕ) (o : Cursor) (m′ : Mode) (c′ : Cursor) (l′ : ℕ) (u′ : List ℕ) where
+  given-ended : (q : Passed) → PassTold s o [] q → LastTurn q → given false (o .offset) q ≡ more m′ c′ l′ u′ → nextLexeme s (o .offset) ≡ refused (fault ForeignByte (length s)) → ⊥
   unfolding given
-  given-ended (stopped m c l u starts) p t e f =
-      let k = limited-inside l s (c .offset) (length s) (p .0 .inside) (sym (starts-there s o [] false never-ended m c l u (p .0) (p .1 .1)) ∙ f) in
+  given-ended (stopped m c u starts) p t e f =
+      let layout = ltb (o .offset) (c .offset) in
+      let k = limited-inside layout s (c .offset) (length s) (p .0 .inside) (since-refused (o .offset) (limited layout s (c .offset)) (fault ForeignByte (length s)) (sym (starts-there s o [] false never-ended m c u (p .0) (p .1 .1)) ∙ f)) in
       omega arith
-  given-ended (stopped m c l u (waits w)) p t e f =
+  given-ended (stopped m c u (waits w)) p t e f =
       let other : (w .refusal ≡ ForeignByte → ⊥) × (length u ≤ 2) = subst (Other u) t (turn-other m (c .offset) u) in
-      other .0 (same-fault w (fault ForeignByte (length s)) (sym (refused-there s o [] false never-ended m c l u w (p .0) (p .1 refl)) ∙ f) refl)
-  given-ended (stopped m c l u (stops w)) p t e f = never-more m c l u m′ c′ l′ u′ w e
+      other .0 (same-fault w (fault ForeignByte (length s)) (sym (refused-there s o [] false never-ended m c u w (p .0) (p .1 refl)) ∙ f) refl)
+  given-ended (stopped m c u (stops w)) p t e f = never-more m c (o .offset) u m′ c′ l′ u′ w e
 
 -- ---- the reader, whatever comes
 
--- where its passing stops
-passed-told : (s : List ℕ) (o : Cursor) (z : List ℕ) (m : Mode) (c : Cursor) (l : Bool) (u : List ℕ) → Stands s o z m c l u → PassTold s o z (pass m zero c l u)
-passed-told s o z m c l u p =
-    let e : c .offset ≡ c .offset + 0 = omega arith in
-    pass-told s o z u m zero c l (omega arith) (p .same ∙ ap (resume s m) e) (p .hand) (p .moved) (p .ahead) (p .inside) (p .flag)
-
 -- s was delivered so far, and the reader stands properly in every text that goes on from it
-abbrev pub StandsAfter : List ℕ → Cursor → Mode → Cursor → Bool → List ℕ → Type 0
-StandsAfter s o m c l u = (z : List ℕ) → Stands (s ++ z) o z m c l u
+abbrev pub StandsAfter : List ℕ → Cursor → Mode → Cursor → List ℕ → Type 0
+StandsAfter s o m c u = (z : List ℕ) → Stands (s ++ z) o z m c u
 
 -- a reader that has just begun does
-pub begun-after : StandsAfter [] startCursor blank startCursor false []
+pub begun-after : StandsAfter [] startCursor blank startCursor []
 unfolding resume
 begun-after z =
     record {
@@ -404,67 +406,67 @@ begun-after z =
       moved = sym (move-here z startCursor);
       ahead = omega arith;
       inside = omega arith;
-      flag = sym (le-ltb 0 0 (omega arith));
     }
 
-module _ (s : List ℕ) (o : Cursor) (m : Mode) (c : Cursor) (l : Bool) (u : List ℕ) (stands : StandsAfter s o m c l u) where
+module _ (s : List ℕ) (o : Cursor) (m : Mode) (c : Cursor) (u : List ℕ) (stands : StandsAfter s o m c u) where
   -- with a chunk more it does
-  pub fed-after : (x : List ℕ) → StandsAfter (s ++ x) o m c l (u ++ x)
-  fed-after x z = subst (λ (t : List ℕ). Stands t o z m c l (u ++ x)) (sym (append-assoc s x z)) (fed-stands (s ++ (x ++ z)) o x z m c l u (stands (x ++ z)))
+  pub fed-after : (x : List ℕ) → StandsAfter (s ++ x) o m c (u ++ x)
+  fed-after x z = subst (λ (t : List ℕ). Stands t o z m c (u ++ x)) (sym (append-assoc s x z)) (fed-stands (s ++ (x ++ z)) o x z m c u (stands (x ++ z)))
 
   -- what it gives is told of every text that goes on from s
-  told : (z : List ℕ) → Tells (s ++ z) o z false never-ended (reading false m c l u)
-  told z = reading-tells (s ++ z) o z false never-ended m c l u (stands z)
+  told : (z : List ℕ) → Tells (s ++ z) o z false never-ended (reading false m c (o .offset) u)
+  told z = reading-tells (s ++ z) o z false never-ended m c u (stands z)
 
   -- when it has asked for more it does
-  pub asked-after : (m′ : Mode) (c′ : Cursor) (l′ : Bool) (u′ : List ℕ) → reading false m c l u ≡ more m′ c′ l′ u′ → StandsAfter s o m′ c′ l′ u′
+  pub asked-after : (m′ : Mode) (c′ : Cursor) (l′ : ℕ) (u′ : List ℕ) → reading false m c (o .offset) u ≡ more m′ c′ l′ u′ → StandsAfter s o m′ c′ u′
   asked-after m′ c′ l′ u′ q z = let p : Tells (s ++ z) o z false never-ended (more m′ c′ l′ u′) = subst (Tells (s ++ z) o z false never-ended) q (told z) in p .0
 
   -- and when it has handed out a token, on the way to the next
-  pub handed-after : (t : Token) (d : Cursor) (u′ : List ℕ) → reading false m c l u ≡ handed t d u′ → StandsAfter s d blank d false u′
+  pub handed-after : (t : Token) (d : Cursor) (u′ : List ℕ) → reading false m c (o .offset) u ≡ handed t d u′ → StandsAfter s d blank d u′
   handed-after t d u′ q z = let p : Tells (s ++ z) o z false never-ended (handed t d u′) = subst (Tells (s ++ z) o z false never-ended) q (told z) in p .1
 
 -- ---- it asks for more: fewer than 1,027 bytes are at hand
-module _ (m′ : Mode) (c′ : Cursor) (l′ : Bool) (u′ : List ℕ) (ended : Bool) where
-  waits-asked : (m : Mode) (c : Cursor) (l : Bool) (u : List ℕ) (w : Fault) (t : Bool) → cond t (never w) (more m c l u) ≡ more m′ c′ l′ u′ → u ≡ u′
-  waits-asked m c l u w true q = absurd (never-more m c l u m′ c′ l′ u′ w q)
-  waits-asked m c l u w false q = asked m c l u m′ c′ l′ u′ q
+module _ (m′ : Mode) (c′ : Cursor) (l′ : ℕ) (u′ : List ℕ) (ended : Bool) (l : ℕ) where
+  waits-asked : (m : Mode) (c : Cursor) (u : List ℕ) (w : Fault) (t : Bool) → cond t (never w) (more m c l u) ≡ more m′ c′ l′ u′ → u ≡ u′
+  waits-asked m c u w true q = absurd (never-more m c l u m′ c′ l′ u′ w q)
+  waits-asked m c u w false q = asked m c l u m′ c′ l′ u′ q
 
-  given-few : (m : Mode) (c : Cursor) (l : Bool) (u : List ℕ) (y : Why) → LastTurn (stopped m c l u y) → (y ≡ starts → 0 < length u) → given ended (stopped m c l u y) ≡ more m′ c′ l′ u′ → length u′ < longestToken + 3
+  given-few : (m : Mode) (c : Cursor) (u : List ℕ) (y : Why) → LastTurn (stopped m c u y) → (y ≡ starts → 0 < length u) → given ended l (stopped m c u y) ≡ more m′ c′ l′ u′ → length u′ < longestToken + 3
   unfolding given
-  given-few m c l u starts t some e =
-      let j = judged-more m c l u m′ c′ l′ u′ (verdict ended l u) e in
-      let r = hand-right l ended u (some refl) in
-      let b : (ended ≡ false) × (length u < longestToken + 3) = subst (Right l u 0 u [] (sym (append-nil u)) (omega arith) (some refl) ended (λ _. refl)) (j .0) r in
+  given-few m c u starts t some e =
+      let layout = ltb l (c .offset) in
+      let j = judged-more m c l u m′ c′ l′ u′ (verdict ended layout u) e in
+      let r = hand-right layout ended u (some refl) in
+      let b : (ended ≡ false) × (length u < longestToken + 3) = subst (Right layout u 0 u [] (sym (append-nil u)) (omega arith) (some refl) ended (λ _. refl)) (j .0) r in
       subst (λ (x : List ℕ). length x < longestToken + 3) (j .1) (b .1)
-  given-few m c l u (waits w) t some e =
-      let f = waits-asked m c l u w ended e in
+  given-few m c u (waits w) t some e =
+      let f = waits-asked m c u w ended e in
       let other : (w .refusal ≡ ForeignByte → ⊥) × (length u ≤ 2) = subst (Other u) t (turn-other m (c .offset) u) in
       let k = ap length f in
       omega (arith, other .1)
-  given-few m c l u (stops w) t some e = absurd (never-more m c l u m′ c′ l′ u′ w e)
+  given-few m c u (stops w) t some e = absurd (never-more m c l u m′ c′ l′ u′ w e)
 
-  pub asked-few : (m : Mode) (c : Cursor) (l : Bool) (u : List ℕ) → Passable (length u) c → reading ended m c l u ≡ more m′ c′ l′ u′ → length u′ < longestToken + 3
-  asked-few m c l u a e = go (pass m zero c l u) refl
+  pub asked-few : (m : Mode) (c : Cursor) (u : List ℕ) → Passable (length u) c → reading ended m c l u ≡ more m′ c′ l′ u′ → length u′ < longestToken + 3
+  asked-few m c u a e = go (pass m zero c u) refl
     where
-      go : (q : Passed) → pass m zero c l u ≡ q → length u′ < longestToken + 3
-      go (stopped m₁ c₁ l₁ u₁ y) f =
-          let o : Onward c (length u) c₁ u₁ y = pass-onward m c l u a (stopped m₁ c₁ l₁ u₁ y) f in
-          given-few m₁ c₁ l₁ u₁ y (subst LastTurn f (last-turn u m zero c l)) (o .some) (sym (ap (given ended) f) ∙ e)
+      go : (q : Passed) → pass m zero c u ≡ q → length u′ < longestToken + 3
+      go (stopped m₁ c₁ u₁ y) f =
+          let o : Onward c (length u) c₁ u₁ y = pass-onward m c u a (stopped m₁ c₁ u₁ y) f in
+          given-few m₁ c₁ u₁ y (subst LastTurn f (last-turn u m zero c)) (o .some) (sym (ap (given ended l) f) ∙ e)
 
 -- ---- it asks for more: a wait is never idle
-module _ (s : List ℕ) (o : Cursor) (m : Mode) (c : Cursor) (l : Bool) (u : List ℕ) (stands : StandsAfter s o m c l u)
-    (m′ : Mode) (c′ : Cursor) (l′ : Bool) (u′ : List ℕ) (asks : reading false m c l u ≡ more m′ c′ l′ u′) where
+module _ (s : List ℕ) (o : Cursor) (m : Mode) (c : Cursor) (u : List ℕ) (stands : StandsAfter s o m c u)
+    (m′ : Mode) (c′ : Cursor) (l′ : ℕ) (u′ : List ℕ) (asks : reading false m c (o .offset) u ≡ more m′ c′ l′ u′) where
   -- if a foreign byte comes, it is refused 5 at that byte, whatever follows it
   pub foreign-next : length u′ < longestToken + 1 → (r : List ℕ) → nextLexeme (s ++ unknown ∷ r) (o .offset) ≡ refused (fault ForeignByte (length s))
   foreign-next few r =
-      given-refused (s ++ unknown ∷ r) o r m′ c′ l′ u′ few (pass m zero c l u) (passed-told (s ++ unknown ∷ r) o (unknown ∷ r) m c l u (stands (unknown ∷ r))) (last-turn u m zero c l) asks
+      given-refused (s ++ unknown ∷ r) o r m′ c′ l′ u′ few (pass m zero c u) (passed-told (s ++ unknown ∷ r) o (unknown ∷ r) m c u (stands (unknown ∷ r))) (last-turn u m zero c) asks
       (length s) (length-append s (unknown ∷ r))
 
   -- if the text ends, it is not
   pub end-next : nextLexeme s (o .offset) ≡ refused (fault ForeignByte (length s)) → ⊥
   end-next =
-      given-ended s o m′ c′ l′ u′ (pass m zero c l u) (passed-told s o [] m c l u (subst (λ (x : List ℕ). Stands x o [] m c l u) (append-nil s) (stands []))) (last-turn u m zero c l) asks
+      given-ended s o m′ c′ l′ u′ (pass m zero c u) (passed-told s o [] m c u (subst (λ (x : List ℕ). Stands x o [] m c u) (append-nil s) (stands []))) (last-turn u m zero c) asks
 
   -- so what comes next is not certain yet
   pub more-uncertain : length u′ < longestToken + 1 → nextLexeme (s ++ unknown ∷ []) (o .offset) ≡ nextLexeme s (o .offset) → ⊥

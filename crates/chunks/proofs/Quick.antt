@@ -15,7 +15,7 @@ use Rattle.lexer.specs.Cursor.{longest, startCursor}
 use Rattle.lexer.specs.Layout.{layoutEnd}
 use Rattle.lexer.specs.Number.{numberToken, numberEnd}
 use Rattle.lexer.specs.Refusal.{numberOf, fault}
-use Rattle.lexer.specs.Token.{Text, Lexeme, lexeme, refused, readLexeme, answered, nextToken}
+use Rattle.lexer.specs.Token.{Text, Lexeme, lexeme, refused, tokenSince, readLexeme, answered, nextToken}
 use Rattle.lexer.specs.declared.refusal.Fault.{Fault}
 use Rattle.lexer.specs.declared.refusal.Refusal.{Refusal}
 use Rattle.lexer.specs.declared.refusal.Refusal.the-variants.{ForeignByte}
@@ -35,8 +35,8 @@ use Rattle.lexer.proofs.Promises.{class-digit, token-there}
 use Rattle.lexer.proofs.Spans.{by-test}
 use Rattle.chunks.specs.Answers.{answerCame, ofAnswer, handOf}
 use Rattle.chunks.specs.Hand.{toNext, nextBy, TokenFits, Fits, Held, Brief}
-use Rattle.chunks.specs.Reader.{Gives, handed, more, never, Passed, stopped, pass, placed, judged, given, reading, Sums, Passable}
-use Rattle.chunks.specs.Shift.{unknown}
+use Rattle.chunks.specs.Reader.{Gives, handed, more, never, Passed, stopped, pass, placed, judged, given, reading, movedBy, Sums, Passable}
+use Rattle.chunks.specs.Shift.{unknown, shiftToken}
 use Rattle.chunks.specs.Whole.{longestToken, tokenAt, ownByte, endOf, tokenEnd, unshown, longerThan, showing, longer, nextLexeme, Next as Next′, NoneLonger}
 use Rattle.chunks.specs.declared.hand.Next.{Next}
 use Rattle.chunks.specs.Verdict.{Verdict, settled, tooLong, waiting, verdict}
@@ -118,38 +118,41 @@ module _ (s : List ℕ) (few : length s < longestToken) where
   refused-same w e = call-same ∙ ap (answered s startCursor) e
 
 -- the reader stands at the start of every text that goes on from v
-stands-start : (v z : List ℕ) → Stands (v ++ z) startCursor z blank startCursor false v
-stands-start v z = fed-stands (v ++ z) startCursor v z blank startCursor false [] (begun-after (v ++ z))
+stands-start : (v z : List ℕ) → Stands (v ++ z) startCursor z blank startCursor v
+stands-start v z = fed-stands (v ++ z) startCursor v z blank startCursor [] (begun-after (v ++ z))
 
 came-5 : (n : ℕ) → answerCame n (Answer.Refused (fault ForeignByte n) startCursor) ≡ true
 unfolding answerCame
 came-5 n = eq-eqb n n refl
 
 module _ (ended : Bool) (v z : List ℕ) (over : ended ≡ true → z ≡ []) (open-end : ended ≡ false → z ≡ unknown ∷ []) (few : length (v ++ z) < longestToken) (not-came : answerCame (length v) (nextToken File (v ++ z) startCursor) ≡ false) where
-  by-gives : (g : Gives) → reading ended blank startCursor false v ≡ g → Tells (v ++ z) startCursor z ended over g → Counts 0 (0 + length v) g → toNext g ≡ nextOf (nextToken File (v ++ z) startCursor)
+  by-gives : (g : Gives) → reading ended blank startCursor 0 v ≡ g → Tells (v ++ z) startCursor z ended over g → Counts 0 (0 + length v) g → toNext g ≡ nextOf (nextToken File (v ++ z) startCursor)
   unfolding toNext
   by-gives (handed t d u) g p c = ap nextOf (sym (read-same (v ++ z) few t d (p .0)))
   by-gives (never w) g p c = ap nextOf (sym (refused-same (v ++ z) few w p))
   by-gives (more m d l u) g p c =
       let e : ended ≡ false = p .1 in
-      let q : reading false blank startCursor false v ≡ more m d l u = ap (λ (b : Bool). reading b blank startCursor false v) (sym e) ∙ g in
+      let q : reading false blank startCursor 0 v ≡ more m d l u = ap (λ (b : Bool). reading b blank startCursor 0 v) (sym e) ∙ g in
       let k = c .count in
       let a = length-append v z in
-      let f = foreign-next v startCursor blank startCursor false v (stands-start v) m d l u q (omega arith) [] in
+      let f = foreign-next v startCursor blank startCursor v (stands-start v) m d l u q (omega arith) [] in
       let r = refused-same (v ++ z) few (fault ForeignByte (length v)) (ap (λ (x : List ℕ). nextLexeme (v ++ x) 0) (open-end e) ∙ f) in
       absurd (true-false (answerCame (length v) (nextToken File (v ++ z) startCursor)) (ap (answerCame (length v)) r ∙ came-5 (length v)) not-came)
 
-  pub at-start : toNext (reading ended blank startCursor false v) ≡ nextOf (nextToken File (v ++ z) startCursor)
+  pub at-start : toNext (reading ended blank startCursor 0 v) ≡ nextOf (nextToken File (v ++ z) startCursor)
   at-start =
       let a = length-append v z in
-      by-gives (reading ended blank startCursor false v) refl (reading-tells (v ++ z) startCursor z ended over blank startCursor false v (stands-start v z))
-      (reading-counts ended blank startCursor false v (record { short = omega arith; line = omega arith; column = omega arith }))
+      by-gives (reading ended blank startCursor 0 v) refl (reading-tells (v ++ z) startCursor z ended over blank startCursor v (stands-start v z))
+      (reading-counts ended blank startCursor 0 v (record { short = omega arith; line = omega arith; column = omega arith }))
 
--- the same from any cursor
-nextOf-shifted : (c : Cursor) (a : Answer) → shiftNext c (nextOf a) ≡ nextBy blank c false (ofAnswer a)
+-- the same from any cursor, where the layout before the token begins
+nextOf-shifted : (c : Cursor) (s : List ℕ) (a : Answer) → a ≡ nextToken File s startCursor → shiftNext c (nextOf a) ≡ nextBy blank c (c .offset) (ofAnswer a)
 unfolding nextBy ofAnswer
-nextOf-shifted c (Answer.Read t d) = refl
-nextOf-shifted c (Answer.Refused w k) = refl
+nextOf-shifted c s (Answer.Read t d) e =
+    let p = read-promises File s startCursor t d (sym e) in
+    let k : c .offset + t .layout ≡ c .offset = omega (arith, p .layout) in
+    ap (λ (i : ℕ). Next.Token (tokenSince i (shiftToken (c .offset) t)) (movedBy c d)) k
+nextOf-shifted c s (Answer.Refused w k) e = refl
 
 -- ---- as the code has it: the bytes at hand, with the unknown byte behind them
 module _ (s : List ℕ) (c : Cursor) (h : Brief s c) (ended : Bool) where
@@ -184,7 +187,7 @@ module _ (s : List ℕ) (c : Cursor) (h : Brief s c) (ended : Bool) where
   unended false e = refl
 
   module _ (a : Answer) (e : a ≡ nextToken File text startCursor) (t : Bool) (f : t ≡ answerCame (length s - 1) a) (g : t ≡ false) where
-    told-start : toNext (reading ended blank startCursor false v) ≡ nextOf a
+    told-start : toNext (reading ended blank startCursor 0 v) ≡ nextOf a
     told-start =
         let n : length s - 1 ≡ length v = sym size in
         let w : nextToken File text startCursor ≡ nextToken File (v ++ tail ended) startCursor = ap (λ (x : List ℕ). nextToken File x startCursor) (text-of ended) in
@@ -192,8 +195,8 @@ module _ (s : List ℕ) (c : Cursor) (h : Brief s c) (ended : Bool) where
         (ap (answerCame (length v)) (sym w ∙ sym e) ∙ ap (λ (i : ℕ). answerCame i a) (sym n) ∙ sym f ∙ g)
         ∙ ap nextOf (sym w ∙ sym e)
 
-    pub brief-tells : (j : Judgement) → j ≡ ofAnswer a → (r : Next) → r ≡ nextBy blank c false j → r ≡ toNext (reading ended blank c false v)
-    brief-tells j q r k = k ∙ ap (nextBy blank c false) q ∙ sym (nextOf-shifted c a) ∙ ap (shiftNext c) (sym told-start) ∙ sym (reading-from-start ended c false v)
+    pub brief-tells : (j : Judgement) → j ≡ ofAnswer a → (r : Next) → r ≡ nextBy blank c (c .offset) j → r ≡ toNext (reading ended blank c (c .offset) v)
+    brief-tells j q r k = k ∙ ap (nextBy blank c (c .offset)) q ∙ sym (nextOf-shifted c text a e) ∙ ap (shiftNext c) (sym told-start) ∙ sym (reading-from-start ended c v)
 
     pub brief-fits : (j : Judgement) → j ≡ ofAnswer a → Fits c j
     unfolding toNext ofAnswer
@@ -221,8 +224,8 @@ module _ (s : List ℕ) (c : Cursor) (h : Brief s c) (ended : Bool) where
 
         go : (b : Answer) → a ≡ b → Fits c (ofAnswer b)
         go (Answer.Read t d) k =
-            let m = counted t d (reading ended blank startCursor false v) (told-start ∙ ap nextOf k)
-            (reading-counts ended blank startCursor false v (record { short = (let i = able .short in omega arith); line = omega arith; column = omega arith })) in
+            let m = counted t d (reading ended blank startCursor 0 v) (told-start ∙ ap nextOf k)
+            (reading-counts ended blank startCursor 0 v (record { short = (let i = able .short in omega arith); line = omega arith; column = omega arith })) in
             let p = read-promises File text startCursor t d (sym e ∙ k) in
             record { sums = m; start = (let i = m .offset in omega (arith, p .ahead)) }
         go (Answer.Refused w b) k =
@@ -256,7 +259,7 @@ IsMore (more m d l u) = Unit {0}
 IsMore (never w) = ⊥
 
 module _ (ended : Bool) (v z : List ℕ) (over : ended ≡ true → z ≡ []) (few : length (v ++ z) < longestToken) (came : answerCame (length v) (nextToken File (v ++ z) startCursor) ≡ true) where
-  asks : (g : Gives) → reading ended blank startCursor false v ≡ g → Tells (v ++ z) startCursor z ended over g → Tells (v ++ []) startCursor [] ended (λ _. refl) g → IsMore g
+  asks : (g : Gives) → reading ended blank startCursor 0 v ≡ g → Tells (v ++ z) startCursor z ended over g → Tells (v ++ []) startCursor [] ended (λ _. refl) g → IsMore g
   asks (handed t d u) g p q = came-read (length v) t d (sym (ap (answerCame (length v)) (read-same (v ++ z) few t d (p .0))) ∙ came)
   asks (more m d l u) g p q = tt
   asks (never w) g p q =
@@ -266,10 +269,10 @@ module _ (ended : Bool) (v z : List ℕ) (over : ended ≡ true → z ≡ []) (f
       let k = five-inside (v ++ []) (length v) (refused-same (v ++ []) (omega arith) (fault ForeignByte (length v)) (q ∙ ap refused e)) in
       omega arith
 
-  pub start-asks : IsMore (reading ended blank startCursor false v)
+  pub start-asks : IsMore (reading ended blank startCursor 0 v)
   start-asks =
-      asks (reading ended blank startCursor false v) refl (reading-tells (v ++ z) startCursor z ended over blank startCursor false v (stands-start v z))
-      (reading-tells (v ++ []) startCursor [] ended (λ _. refl) blank startCursor false v (stands-start v []))
+      asks (reading ended blank startCursor 0 v) refl (reading-tells (v ++ z) startCursor z ended over blank startCursor v (stands-start v z))
+      (reading-tells (v ++ []) startCursor [] ended (λ _. refl) blank startCursor v (stands-start v []))
 
 -- from any cursor
 next-more : (c : Cursor) (g h : Gives) → toNext h ≡ shiftNext c (toNext g) → IsMore g → IsMore h
@@ -281,9 +284,9 @@ next-more c (handed t d u) h q i = absurd i
 next-more c (never w) h q i = absurd i
 
 -- by where layout stopped
-more-place : (ended : Bool) (m : Mode) (c : Cursor) (l : Bool) (u : List ℕ) (y : Why) → IsMore (given ended (stopped m c l u y)) → Next.More m c l ≡ toNext (given ended (stopped m c l u y))
+more-place : (ended : Bool) (m : Mode) (c : Cursor) (l : ℕ) (u : List ℕ) (y : Why) → IsMore (given ended l (stopped m c u y)) → Next.More m c l ≡ toNext (given ended l (stopped m c u y))
 unfolding given judged toNext
-more-place ended m c l u Starts i = go (verdict ended l u) i
+more-place ended m c l u Starts i = go (verdict ended (ltb l (c .offset)) u) i
   where
     go : (k : Verdict) → IsMore (judged m c l u k) → Next.More m c l ≡ toNext (judged m c l u k)
     go (settled (lexeme t e x)) i = absurd i
@@ -298,19 +301,19 @@ more-place ended m c l u (Waits w) i = go ended i
 more-place ended m c l u (Stops w) i = absurd i
 
 module _ (s : List ℕ) (c : Cursor) (h : Brief s c) (ended : Bool) (n : ℕ) (i : n ≡ length s - 1) (a : Answer) (e : a ≡ nextToken File (text s c h ended) startCursor) (t : Bool) (f : t ≡ answerCame n a) (g : t ≡ true) where
-  brief-asks : IsMore (reading ended blank c false (handOf s))
+  brief-asks : IsMore (reading ended blank c (c .offset) (handOf s))
   brief-asks =
       let k : n ≡ length (handOf s) = i ∙ sym (size s c h ended) in
       let w = ap (λ (x : List ℕ). nextToken File x startCursor) (text-of s c h ended ended) in
-      next-more c (reading ended blank startCursor false (handOf s)) (reading ended blank c false (handOf s)) (reading-from-start ended c false (handOf s))
+      next-more c (reading ended blank startCursor 0 (handOf s)) (reading ended blank c (c .offset) (handOf s)) (reading-from-start ended c (handOf s))
       (start-asks ended (handOf s) (tail s c h ended ended) (over s c h ended ended) (subst (λ (x : List ℕ). length x < longestToken) (text-of s c h ended ended) (text-few s c h ended ended))
       (ap (answerCame (length (handOf s))) (sym w ∙ sym e) ∙ ap (λ (j : ℕ). answerCame j a) (sym k) ∙ sym f ∙ g))
 
-  pub brief-more : (p : Place) → placed c (take (n - 0) (drop 0 s)) p ≡ pass blank 0 c false (take (n - 0) (drop 0 s)) → (r : Next) → r ≡ Next.More (p .mode) (p .cursor) (p .layout) → r ≡ toNext (reading ended blank c false (handOf s))
+  pub brief-more : (p : Place) → placed c (take (n - 0) (drop 0 s)) p ≡ pass blank 0 c (take (n - 0) (drop 0 s)) → (r : Next) → r ≡ Next.More (p .mode) (p .cursor) (c .offset) → r ≡ toNext (reading ended blank c (c .offset) (handOf s))
   brief-more p q r k =
       let b : take (n - 0) (drop 0 s) ≡ handOf s = (let j : n - 0 ≡ length s - 1 = omega arith in ap (λ (x : ℕ). take x s) j) in
-      let d : pass blank 0 c false (handOf s) ≡ stopped (p .mode) (p .cursor) (p .layout) (drop (p .cursor .offset - c .offset) (handOf s)) (p .why) = sym (subst (λ (u : List ℕ). placed c u p ≡ pass blank 0 c false u) b q) in
-      k ∙ more-place ended (p .mode) (p .cursor) (p .layout) (drop (p .cursor .offset - c .offset) (handOf s)) (p .why) (subst (λ (x : Passed). IsMore (given ended x)) d brief-asks) ∙ sym (ap (λ (x : Passed). toNext (given ended x)) d)
+      let d : pass blank 0 c (handOf s) ≡ stopped (p .mode) (p .cursor) (drop (p .cursor .offset - c .offset) (handOf s)) (p .why) = sym (subst (λ (u : List ℕ). placed c u p ≡ pass blank 0 c u) b q) in
+      k ∙ more-place ended (p .mode) (p .cursor) (c .offset) (drop (p .cursor .offset - c .offset) (handOf s)) (p .why) (subst (λ (x : Passed). IsMore (given ended (c .offset) x)) d brief-asks) ∙ sym (ap (λ (x : Passed). toNext (given ended (c .offset) x)) d)
 
 -- ---- what the functions above it ask
 module _ (s : List ℕ) (c : Cursor) where

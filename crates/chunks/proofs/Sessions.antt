@@ -39,7 +39,7 @@ phaseOf ended = cond ended Phase.Ended Phase.Open
 abbrev pub Follows : Bool → List ℕ → Type 0
 Follows ended z = ended ≡ true → z ≡ []
 
--- the reader that was fed p, and has handed out the tokens up to the cursor o; whatever follows, it stands there
+-- the reader that was fed p, and has handed out the tokens up to the cursor o, where the layout before the next begins; whatever follows, it stands there
 pub record Driven (ended : Bool) (p : List ℕ) (o : Cursor) (r : Reader) (w : List ℕ) : Type 0 where
   pub phase : r .phase ≡ phaseOf ended
   pub size : length w ≡ windowSize
@@ -48,7 +48,8 @@ pub record Driven (ended : Bool) (p : List ℕ) (o : Cursor) (r : Reader) (w : L
   pub few : atHand r < mostAtHand
   pub count : delivered r ≡ length p
   pub able : Passable (atHand r) (r .cursor)
-  pub stands : (z : List ℕ) → Follows ended z → Stands (p ++ z) o z (r .mode) (r .cursor) (r .layout) (handIn r w)
+  pub layout : r .layout ≡ o .offset
+  pub stands : (z : List ℕ) → Follows ended z → Stands (p ++ z) o z (r .mode) (r .cursor) (handIn r w)
 
 -- what is left of the bytes at hand, in the window
 suffix : (at n j : ℕ) (w v : List ℕ) → take n (drop at w) ≡ v → length v ≡ n → j ≤ n → take (n - j) (drop (at + j) w) ≡ drop j v
@@ -136,7 +137,8 @@ module _ (ended : Bool) (p : List ℕ) (o : Cursor) (r : Reader) (w : List ℕ) 
   may-come =
       let c = d .count in
       let v : Valid (delivered r) (r .cursor) = record { short = omega arith; offset = omega arith; line = d .able .line; column = d .able .column } in
-      let s : sound r ≡ true = cc (le-leb (r .from) (r .to) (d .some), lt-ltb (r .to) windowSize (d .inside), passes (delivered r) (r .cursor) v) in
+      let b : r .layout ≤ r .cursor .offset = (let l = d .layout in let a = d .stands [] (λ _. refl) .ahead in omega arith) in
+      let s : sound r ≡ true = cc (le-leb (r .from) (r .to) (d .some), lt-ltb (r .to) windowSize (d .inside), le-leb (r .layout) (r .cursor .offset) b, passes (delivered r) (r .cursor) v) in
       let e = le-leb (delivered r + length chunk) (cond ended (delivered r) longest) (limit ended refl) in
       cc
     where
@@ -156,10 +158,10 @@ module _ (ended : Bool) (p : List ℕ) (o : Cursor) (r : Reader) (w : List ℕ) 
   later : (z : List ℕ) → Follows ended z → Follows ended (x ++ z)
   later z f e = none-taken k chunk z (over e) (f e)
 
-  stands′ : (z : List ℕ) → Follows ended z → Stands ((p ++ x) ++ z) o z (r .mode) (r .cursor) (r .layout) v
+  stands′ : (z : List ℕ) → Follows ended z → Stands ((p ++ x) ++ z) o z (r .mode) (r .cursor) v
   stands′ z f =
-      subst (λ (s : List ℕ). Stands s o z (r .mode) (r .cursor) (r .layout) v) (sym (append-assoc p x z))
-      (fed-stands (p ++ (x ++ z)) o x z (r .mode) (r .cursor) (r .layout) (handIn r w) (d .stands (x ++ z) (later z f)))
+      subst (λ (s : List ℕ). Stands s o z (r .mode) (r .cursor) v) (sym (append-assoc p x z))
+      (fed-stands (p ++ (x ++ z)) o x z (r .mode) (r .cursor) (handIn r w) (d .stands (x ++ z) (later z f)))
 
   front : place r ≤ r .from
   front = place-front (r .from) (r .to) (d .some) (d .inside)
@@ -202,8 +204,8 @@ module _ (ended : Bool) (p : List ℕ) (o : Cursor) (r : Reader) (w : List ℕ) 
       omega arith
 
   -- the reader that a call leaves
-  module _ (o′ : Cursor) (m′ : Mode) (c′ : Cursor) (l′ : Bool) (u′ : List ℕ) (q : Rest (r .cursor .offset) (r .cursor .offset + length v) c′ u′)
-      (few′ : length u′ < mostAtHand) (st : (z : List ℕ) → Follows ended z → Stands ((p ++ x) ++ z) o′ z m′ c′ l′ u′) where
+  module _ (o′ : Cursor) (m′ : Mode) (c′ : Cursor) (l′ : ℕ) (u′ : List ℕ) (since : l′ ≡ o′ .offset) (q : Rest (r .cursor .offset) (r .cursor .offset + length v) c′ u′)
+      (few′ : length u′ < mostAtHand) (st : (z : List ℕ) → Follows ended z → Stands ((p ++ x) ++ z) o′ z m′ c′ u′) where
     abbrev r′ : Reader
     r′ = record { mode = m′; cursor = c′; layout = l′; from = to - length u′; to = to; phase = r .phase }
 
@@ -239,7 +241,8 @@ module _ (ended : Bool) (p : List ℕ) (o : Cursor) (r : Reader) (w : List ℕ) 
           few = omega arith;
           count = omega arith;
           able = subst (λ (b : ℕ). Passable b c′) (sym n) (q .able);
-          stands = λ z f. subst (Stands ((p ++ x) ++ z) o′ z m′ c′ l′) (sym hand-there) (st z f);
+          layout = since;
+          stands = λ z f. subst (Stands ((p ++ x) ++ z) o′ z m′ c′) (sym hand-there) (st z f);
         }
 
   -- the bytes from one offset to another, where n are left behind them
@@ -268,7 +271,9 @@ module _ (ended : Bool) (p : List ℕ) (o : Cursor) (r : Reader) (w : List ℕ) 
 
   -- ---- what a call tells
   told : (z : List ℕ) (f : Follows ended z) → Tells ((p ++ x) ++ z) o z ended f (reading ended (r .mode) (r .cursor) (r .layout) v)
-  told z f = reading-tells ((p ++ x) ++ z) o z ended f (r .mode) (r .cursor) (r .layout) v (stands′ z f)
+  told z f =
+      subst (λ (l : ℕ). Tells ((p ++ x) ++ z) o z ended f (reading ended (r .mode) (r .cursor) l v)) (sym (d .layout))
+      (reading-tells ((p ++ x) ++ z) o z ended f (r .mode) (r .cursor) v (stands′ z f))
 
   by-gives : (g : Gives) → reading ended (r .mode) (r .cursor) (r .layout) v ≡ g → Counts (r .cursor .offset) (r .cursor .offset + length v) g
       → ((z : List ℕ) (f : Follows ended z) → Tells ((p ++ x) ++ z) o z ended f g) → Stepped ended (p ++ x) o k (leaves (gave r to k g) w′)
@@ -281,19 +286,21 @@ module _ (ended : Bool) (p : List ℕ) (o : Cursor) (r : Reader) (w : List ℕ) 
         (
           (λ z f. tell z f .0),
           tell [] (λ _. refl) .2,
-          driven-on e blank e false u (record { ahead = omega arith; count = c .0 .count; able = c .0 .able }) (omega arith) (λ z f. tell z f .1),
+          driven-on e blank e (e .offset) u refl (record { ahead = omega arith; count = c .0 .count; able = c .0 .able }) (omega arith) (λ z f. tell z f .1),
           own-bytes (t .start) (e .offset) (length u) (c .1) (omega arith),
         ),
       )
   by-gives (more m′ c′ l′ u′) g c tell =
       let e = tell [] (λ _. refl) .1 in
-      let few = asked-few m′ c′ l′ u′ ended (r .mode) (r .cursor) (r .layout) v able g in
-      let n = at-hand o m′ c′ l′ u′ c few (λ z f. tell z f .0) in (
+      let few = asked-few m′ c′ l′ u′ ended (r .layout) (r .mode) (r .cursor) v able g in
+      let since = tell [] (λ _. refl) .2 in
+      let asks = ap (λ (b : Bool). reading b (r .mode) (r .cursor) (o .offset) v) (sym e) ∙ ap (λ (l : ℕ). reading ended (r .mode) (r .cursor) l v) (sym (d .layout)) ∙ g in
+      let n = at-hand o m′ c′ l′ u′ since c few (λ z f. tell z f .0) in (
         refl,
         (
           e,
-          driven-on o m′ c′ l′ u′ c few (λ z f. tell z f .0),
-          (λ h q. more-uncertain (p ++ x) o (r .mode) (r .cursor) (r .layout) v (λ z. stands′ z (λ b. never-ended (sym e ∙ b))) m′ c′ l′ u′ (ap (λ (b : Bool). reading b (r .mode) (r .cursor) (r .layout) v) (sym e) ∙ g) (omega arith) q),
+          driven-on o m′ c′ l′ u′ since c few (λ z f. tell z f .0),
+          (λ h q. more-uncertain (p ++ x) o (r .mode) (r .cursor) v (λ z. stands′ z (λ b. never-ended (sym e ∙ b))) m′ c′ l′ u′ asks (omega arith) q),
         ),
       )
   by-gives (never w) g c tell = (refl, tell)
@@ -315,6 +322,7 @@ begun-driven w l =
       few = omega arith;
       count = omega arith;
       able = record { short = omega arith; line = omega arith; column = omega arith };
+      layout = refl;
       stands = λ z f. begun-after z;
     }
 
@@ -329,6 +337,7 @@ ended-driven p o r w d =
       few = d .few;
       count = d .count;
       able = d .able;
+      layout = d .layout;
       stands = λ z f. d .stands z (λ e. never-ended e);
     }
 

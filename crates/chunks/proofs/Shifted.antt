@@ -4,12 +4,13 @@ use mathlib.Core.Bool.{Bool, true, false, cond}
 use mathlib.Core.List.{List, [], _∷_}
 use Prim.Native.Nat.{ℕ, zero, suc, _+_}
 use native.Mathlib.Omega.{arith}
-use lib.Dec.{eqb}
+use borrow.Author.Tests.{lt-ltb, le-ltb, ltb-true, ltb-false}
+use lib.Dec.{eqb, ltb}
 use lib.ListN.{take}
 use Rattle.lexer.specs.Chars.{is, layoutChar, foreignByte, newline, percent, star, slash}
 use Rattle.lexer.specs.Cursor.{startCursor, step, walk}
 use Rattle.lexer.specs.Refusal.{fault}
-use Rattle.lexer.specs.Token.{lexeme, refused, token}
+use Rattle.lexer.specs.Token.{lexeme, refused, tokenSince}
 use Rattle.lexer.specs.declared.refusal.Fault.{Fault}
 use Rattle.lexer.specs.declared.refusal.Refusal.the-variants.{EndOfText, ForeignByte}
 use Rattle.lexer.specs.declared.cursor.Cursor.{Cursor}
@@ -45,11 +46,11 @@ shiftWhy d (waits w) = waits (shiftFault d w)
 shiftWhy d (stops w) = stops (shiftFault d w)
 
 abbrev shiftPassed : Cursor → Passed → Passed
-shiftPassed c (stopped m e l u y) = stopped (shiftMode (c .offset) m) (movedBy c e) l u (shiftWhy (c .offset) y)
+shiftPassed c (stopped m e u y) = stopped (shiftMode (c .offset) m) (movedBy c e) u (shiftWhy (c .offset) y)
 
 abbrev pub shiftNext : Cursor → Next → Next
 shiftNext c (Next.Token t d) = Next.Token (shiftToken (c .offset) t) (movedBy c d)
-shiftNext c (Next.More m d l) = Next.More (shiftMode (c .offset) m) (movedBy c d) l
+shiftNext c (Next.More m d l) = Next.More (shiftMode (c .offset) m) (movedBy c d) (c .offset + l)
 shiftNext c (Next.Refused w) = Next.Refused (shiftFault (c .offset) w)
 
 -- ---- one turn
@@ -108,46 +109,56 @@ ahead-shifted d zero m at u = turn-shifted d m at u
 ahead-shifted d (suc k) m at u = refl
 
 -- ---- passing
-pass-shifted : (c : Cursor) (u : List ℕ) (m : Mode) (k : ℕ) (e : Cursor) (l : Bool) → pass (shiftMode (c .offset) m) k (movedBy c e) l u ≡ shiftPassed c (pass m k e l u)
+pass-shifted : (c : Cursor) (u : List ℕ) (m : Mode) (k : ℕ) (e : Cursor) → pass (shiftMode (c .offset) m) k (movedBy c e) u ≡ shiftPassed c (pass m k e u)
 unfolding pass carried
-pass-shifted c [] m k e l = ap (λ (w : Fault). stopped (shiftMode (c .offset) m) (movedBy c e) l [] (waits w)) (wait-shifted (c .offset) m (e .offset))
-pass-shifted c (x ∷ xs) m k e l =
-    ap by (ahead-shifted (c .offset) k m (e .offset) (x ∷ xs)) ∙ go (λ m′ j. pass-shifted c xs m′ j (step e x) true) (ahead k m (e .offset) (x ∷ xs))
+pass-shifted c [] m k e = ap (λ (w : Fault). stopped (shiftMode (c .offset) m) (movedBy c e) [] (waits w)) (wait-shifted (c .offset) m (e .offset))
+pass-shifted c (x ∷ xs) m k e =
+    ap by (ahead-shifted (c .offset) k m (e .offset) (x ∷ xs)) ∙ go (λ m′ j. pass-shifted c xs m′ j (step e x)) (ahead k m (e .offset) (x ∷ xs))
   where
     by : Turn → Passed
-    by t = carried t (λ m′ j. pass m′ j (step (movedBy c e) x) true xs) (stopped (shiftMode (c .offset) m) (movedBy c e) l (x ∷ xs))
+    by t = carried t (λ m′ j. pass m′ j (step (movedBy c e) x) xs) (stopped (shiftMode (c .offset) m) (movedBy c e) (x ∷ xs))
 
-    go : ((m′ : Mode) (j : ℕ) → pass (shiftMode (c .offset) m′) j (movedBy c (step e x)) true xs ≡ shiftPassed c (pass m′ j (step e x) true xs)) → (t : Turn)
-        → by (shiftTurn (c .offset) t) ≡ shiftPassed c (carried t (λ m′ j. pass m′ j (step e x) true xs) (stopped m e l (x ∷ xs)))
-    go f (on m′ j) = ap (λ (i : Cursor). pass (shiftMode (c .offset) m′) j i true xs) (step-moved c e x) ∙ f m′ j
+    go : ((m′ : Mode) (j : ℕ) → pass (shiftMode (c .offset) m′) j (movedBy c (step e x)) xs ≡ shiftPassed c (pass m′ j (step e x) xs)) → (t : Turn)
+        → by (shiftTurn (c .offset) t) ≡ shiftPassed c (carried t (λ m′ j. pass m′ j (step e x) xs) (stopped m e (x ∷ xs)))
+    go f (on m′ j) = ap (λ (i : Cursor). pass (shiftMode (c .offset) m′) j i xs) (step-moved c e x) ∙ f m′ j
     go f start = refl
     go f (wait w) = refl
     go f (stop w) = refl
 
 -- ---- the next token
-judged-shifted : (c : Cursor) (m : Mode) (e : Cursor) (l : Bool) (u : List ℕ) (v : Verdict) → toNext (judged (shiftMode (c .offset) m) (movedBy c e) l u v) ≡ shiftNext c (toNext (judged m e l u v))
+judged-shifted : (c : Cursor) (m : Mode) (e : Cursor) (l : ℕ) (u : List ℕ) (v : Verdict) → toNext (judged (shiftMode (c .offset) m) (movedBy c e) (c .offset + l) u v) ≡ shiftNext c (toNext (judged m e l u v))
 unfolding toNext judged
 judged-shifted c m e l u (settled (lexeme t n x)) =
     let o : c .offset + e .offset + t .start ≡ c .offset + (e .offset + t .start) = omega arith in
-    ap (λ (i : ℕ). Next.Token (token (t .kind) (t .value) i) (walk (movedBy c e) (take n u))) o
-    ∙ ap (Next.Token (shiftToken (c .offset) (shiftToken (e .offset) t))) (moved-walk c e (take n u))
+    ap (λ (i : ℕ). Next.Token (record { kind = t .kind; value = t .value; start = i; layout = c .offset + l }) (walk (movedBy c e) (take n u))) o
+    ∙ ap (Next.Token (shiftToken (c .offset) (tokenSince l (shiftToken (e .offset) t)))) (moved-walk c e (take n u))
 judged-shifted c m e l u (settled (refused w)) =
     let o : c .offset + e .offset + w .offset ≡ c .offset + (e .offset + w .offset) = omega arith in
     ap (λ (i : ℕ). Next.Refused (fault (w .refusal) i)) o
 judged-shifted c m e l u tooLong = refl
 judged-shifted c m e l u waiting = refl
 
-given-shifted : (ended : Bool) (c : Cursor) (p : Passed) → toNext (given ended (shiftPassed c p)) ≡ shiftNext c (toNext (given ended p))
+-- whether layout stands before the token
+before-shifted : (d a b : ℕ) → ltb (d + a) (d + b) ≡ ltb a b
+before-shifted d a b = go (ltb a b) refl
+  where
+    go : (t : Bool) → ltb a b ≡ t → ltb (d + a) (d + b) ≡ t
+    go true e = let k = ltb-true a b e in lt-ltb (d + a) (d + b) (omega arith)
+    go false e = let k = ltb-false a b e in le-ltb (d + a) (d + b) (omega arith)
+
+given-shifted : (ended : Bool) (c : Cursor) (l : ℕ) (p : Passed) → toNext (given ended (c .offset + l) (shiftPassed c p)) ≡ shiftNext c (toNext (given ended l p))
 unfolding toNext given
-given-shifted ended c (stopped m e l u starts) = judged-shifted c m e l u (verdict ended l u)
-given-shifted true c (stopped m e l u (waits w)) = refl
-given-shifted false c (stopped m e l u (waits w)) = refl
-given-shifted ended c (stopped m e l u (stops w)) = refl
+given-shifted ended c l (stopped m e u starts) =
+    ap (λ (b : Bool). toNext (judged (shiftMode (c .offset) m) (movedBy c e) (c .offset + l) u (verdict ended b u))) (before-shifted (c .offset) l (e .offset))
+    ∙ judged-shifted c m e l u (verdict ended (ltb l (e .offset)) u)
+given-shifted true c l (stopped m e u (waits w)) = refl
+given-shifted false c l (stopped m e u (waits w)) = refl
+given-shifted ended c l (stopped m e u (stops w)) = refl
 
--- from a cursor that is further on by c
-pub reading-shifted : (ended : Bool) (m : Mode) (c e : Cursor) (l : Bool) (u : List ℕ) → toNext (reading ended (shiftMode (c .offset) m) (movedBy c e) l u) ≡ shiftNext c (toNext (reading ended m e l u))
-reading-shifted ended m c e l u = ap (λ (p : Passed). toNext (given ended p)) (pass-shifted c u m zero e l) ∙ given-shifted ended c (pass m zero e l u)
+-- from a cursor that is further on by c, and with layout that began so much further on
+pub reading-shifted : (ended : Bool) (m : Mode) (c e : Cursor) (l : ℕ) (u : List ℕ) → toNext (reading ended (shiftMode (c .offset) m) (movedBy c e) (c .offset + l) u) ≡ shiftNext c (toNext (reading ended m e l u))
+reading-shifted ended m c e l u = ap (λ (p : Passed). toNext (given ended (c .offset + l) p)) (pass-shifted c u m zero e) ∙ given-shifted ended c l (pass m zero e u)
 
--- from the cursor c, or from the start and then further on
-pub reading-from-start : (ended : Bool) (c : Cursor) (l : Bool) (u : List ℕ) → toNext (reading ended blank c l u) ≡ shiftNext c (toNext (reading ended blank startCursor l u))
-reading-from-start ended c l u = ap (λ (e : Cursor). toNext (reading ended blank e l u)) (moved-start c) ∙ reading-shifted ended blank c startCursor l u
+-- from the cursor c, where layout begins, or from the start and then further on
+pub reading-from-start : (ended : Bool) (c : Cursor) (u : List ℕ) → toNext (reading ended blank c (c .offset) u) ≡ shiftNext c (toNext (reading ended blank startCursor 0 u))
+reading-from-start ended c u = ap (λ (e : Cursor). toNext (reading ended blank e (e .offset) u)) (moved-start c) ∙ reading-shifted ended blank c startCursor 0 u

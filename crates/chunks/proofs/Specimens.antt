@@ -18,7 +18,7 @@ use Rattle.lexer.specs.Name.{runEnd, runToken, nameToken}
 use Rattle.lexer.specs.Number.{numberEnd, radixClosed, radixTo, characterCode, zeroTo, exponentEnds, signTo, letterTo, exponentTo, float, pointTo, integerTo}
 use Rattle.lexer.specs.Quoted.{itemTurn, escapeTo, coded, closed, quoteTo, itemTo, withChar, outOfLimit}
 use Rattle.lexer.specs.Refusal.{numberOf}
-use Rattle.lexer.specs.Token.{Lexeme, lexeme, refused, floated, valued, numbered, plainToken, plainLexeme, quotedTo, quotedLexeme, lexemeTo}
+use Rattle.lexer.specs.Token.{Lexeme, lexeme, refused, floated, valued, numbered, plainToken, plainLexeme, quotedTo, quotedLexeme, lexemeTo, lexemeSince}
 use Rattle.chunks.specs.Whole.{cameTo, ownByte, unshown, longerThan, endOf, afterLayout, nextLexeme}
 
 abbrev bytes : String → List ℕ
@@ -64,13 +64,13 @@ table =
     ∷ []
 
 pub border : map (λ (r : (ℕ × ℕ) × (ℕ × ℕ)). r .0) table ≡ map (λ (r : (ℕ × ℕ) × (ℕ × ℕ)). r .1) table
-unfolding afterLayout layoutTextOf layoutTurn slashed front needed items after past commentOpened classOf lexemeTo plainToken plainLexeme nameToken runToken runEnd longerThan endOf unshown cameTo ownByte digitOf digits numberEnd radixClosed radixTo characterCode zeroTo exponentEnds signTo letterTo exponentTo float pointTo integerTo quoteTo itemTo floated valued numbered withinLimits quotedLexeme quotedTo itemTurn escapeTo coded closed withChar outOfLimit scale round
+unfolding afterLayout layoutTextOf layoutTurn slashed front needed items after past commentOpened classOf lexemeTo lexemeSince plainToken plainLexeme nameToken runToken runEnd longerThan endOf unshown cameTo ownByte digitOf digits numberEnd radixClosed radixTo characterCode zeroTo exponentEnds signTo letterTo exponentTo float pointTo integerTo quoteTo itemTo floated valued numbered withinLimits quotedLexeme quotedTo itemTurn escapeTo coded closed withChar outOfLimit scale round
 border = refl
 
 pub border-quoted : of "'" 1022 smallA (newline ∷ []) ≡ (4, 0)
-unfolding afterLayout layoutTextOf layoutTurn slashed front needed items after past commentOpened classOf lexemeTo plainToken plainLexeme nameToken runToken runEnd longerThan endOf unshown cameTo ownByte digitOf digits numberEnd radixClosed radixTo characterCode zeroTo exponentEnds signTo letterTo exponentTo float pointTo integerTo quoteTo itemTo floated valued numbered withinLimits quotedLexeme quotedTo itemTurn escapeTo coded closed withChar outOfLimit scale round
+unfolding afterLayout layoutTextOf layoutTurn slashed front needed items after past commentOpened classOf lexemeTo lexemeSince plainToken plainLexeme nameToken runToken runEnd longerThan endOf unshown cameTo ownByte digitOf digits numberEnd radixClosed radixTo characterCode zeroTo exponentEnds signTo letterTo exponentTo float pointTo integerTo quoteTo itemTo floated valued numbered withinLimits quotedLexeme quotedTo itemTurn escapeTo coded closed withChar outOfLimit scale round
 border-quoted = refl
 
 pub border-quoted-longer : of "'" 1023 smallA (newline ∷ []) ≡ (15, 0)
-unfolding afterLayout layoutTextOf layoutTurn slashed front needed items after past commentOpened classOf lexemeTo plainToken plainLexeme nameToken runToken runEnd longerThan endOf unshown cameTo ownByte digitOf digits numberEnd radixClosed radixTo characterCode zeroTo exponentEnds signTo letterTo exponentTo float pointTo integerTo quoteTo itemTo floated valued numbered withinLimits quotedLexeme quotedTo itemTurn escapeTo coded closed withChar outOfLimit scale round
+unfolding afterLayout layoutTextOf layoutTurn slashed front needed items after past commentOpened classOf lexemeTo lexemeSince plainToken plainLexeme nameToken runToken runEnd longerThan endOf unshown cameTo ownByte digitOf digits numberEnd radixClosed radixTo characterCode zeroTo exponentEnds signTo letterTo exponentTo float pointTo integerTo quoteTo itemTo floated valued numbered withinLimits quotedLexeme quotedTo itemTurn escapeTo coded closed withChar outOfLimit scale round
 border-quoted-longer = refl

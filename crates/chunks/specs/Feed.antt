@@ -41,12 +41,13 @@ windowSize = 2057
 abbrev pub mostAtHand : ℕ
 mostAtHand = longestToken + 3
 
--- a reader that is not made up: the bytes at hand are in the window, with room for one behind them, and the cursor is valid in what was delivered
+-- a reader that is not made up: the bytes at hand are in the window, with room for one behind them, layout began at the cursor or before it, and the cursor
+-- is valid in what was delivered
 abbrev pub sound : Reader → Bool
-sound r = leb (r .from) (r .to) && ltb (r .to) windowSize && valid (delivered r) (r .cursor)
+sound r = leb (r .from) (r .to) && ltb (r .to) windowSize && leb (r .layout) (r .cursor .offset) && valid (delivered r) (r .cursor)
 
 abbrev pub begun : Reader
-begun = record { mode = Blank; cursor = startCursor; layout = false; from = 0; to = 0; phase = Phase.Open }
+begun = record { mode = Blank; cursor = startCursor; layout = 0; from = 0; to = 0; phase = Phase.Open }
 
 -- ---- the sender says that the text has ended
 unfoldable pub endedPhase : Phase → Phase
@@ -96,9 +97,9 @@ pub data Leaves : Type 0 where
 abbrev pub refusing : Reader → ℕ → Fault → Fed
 refusing r k w = record { reader = inPhase r (Phase.Refused w); taken = k; given = Given.Refused w }
 
--- by what the bytes at hand, which end at `to`, give
+-- by what the bytes at hand, which end at `to`, give; layout begins anew behind a token
 unfoldable pub gave : Reader → ℕ → ℕ → Gives → Fed
-gave r to k (handed t c u) = record { reader = record { mode = Blank; cursor = c; layout = false; from = to - length u; to = to; phase = r .phase }; taken = k; given = Given.Token t c }
+gave r to k (handed t c u) = record { reader = record { mode = Blank; cursor = c; layout = c .offset; from = to - length u; to = to; phase = r .phase }; taken = k; given = Given.Token t c }
 gave r to k (more m c l u) = record { reader = record { mode = m; cursor = c; layout = l; from = to - length u; to = to; phase = r .phase }; taken = k; given = Given.More }
 gave r to k (never w) = refusing r k w
 
@@ -125,7 +126,7 @@ stageOf (Phase.Refused w) = Stage.Refused w
 
 -- without the bytes that are left: `sum` bytes were delivered, and the cursor tells how many of them are read
 unfoldable pub fedBy : Reader → ℕ → ℕ → ℕ → Next → Fed
-fedBy r to sum k (Next.Token t c) = record { reader = record { mode = Blank; cursor = c; layout = false; from = to - (sum - c .offset); to = to; phase = r .phase }; taken = k; given = Given.Token t c }
+fedBy r to sum k (Next.Token t c) = record { reader = record { mode = Blank; cursor = c; layout = c .offset; from = to - (sum - c .offset); to = to; phase = r .phase }; taken = k; given = Given.Token t c }
 fedBy r to sum k (Next.More m c l) = record { reader = record { mode = m; cursor = c; layout = l; from = to - (sum - c .offset); to = to; phase = r .phase }; taken = k; given = Given.More }
 fedBy r to sum k (Next.Refused w) = refusing r k w
 

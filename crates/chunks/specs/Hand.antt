@@ -1,11 +1,11 @@
 -- What the code tells of the bytes at hand, and what it asks. Definitions only.
 use Prim.Native.Nat.{ℕ, _+_, _-_, _<_, _≤_}
 use mathlib.Core.Path.{_≡_}
-use mathlib.Core.Bool.{Bool}
 use mathlib.Core.List.{List, [], _∷_, _++_}
 use lib.ListN.{length}
 use Rattle.lexer.specs.Cursor.{longest}
 use Rattle.lexer.specs.Refusal.{fault}
+use Rattle.lexer.specs.Token.{tokenSince}
 use Rattle.lexer.specs.declared.refusal.Refusal.the-variants.{TokenTooLong}
 use Rattle.lexer.specs.declared.cursor.Cursor.{Cursor}
 use Rattle.lexer.specs.declared.token.Token.{Token}
@@ -21,15 +21,15 @@ use Rattle.chunks.specs.declared.verdict.Judgement.{Judgement}
 -- without the bytes that are left, which the cursor tells
 unfoldable pub toNext : Gives → Next
 toNext (handed t c u) = Next.Token t c
-toNext (more m c l u) = Next.More m c l
+toNext (more m c from u) = Next.More m c from
 toNext (never w) = Next.Refused w
 
--- by what is judged of the token at the cursor c
-unfoldable pub nextBy : Mode → Cursor → Bool → Judgement → Next
-nextBy m c l (Judgement.Token t d) = Next.Token (shiftToken (c .offset) t) (movedBy c d)
-nextBy m c l (Judgement.Refused w) = Next.Refused (shiftFault (c .offset) w)
-nextBy m c l Judgement.Long = Next.Refused (fault TokenTooLong (c .offset))
-nextBy m c l Judgement.Waiting = Next.More m c l
+-- by what is judged of the token at the cursor c, where the layout before it began at `from`
+unfoldable pub nextBy : Mode → Cursor → ℕ → Judgement → Next
+nextBy m c from (Judgement.Token t d) = Next.Token (tokenSince from (shiftToken (c .offset) t)) (movedBy c d)
+nextBy m c from (Judgement.Refused w) = Next.Refused (shiftFault (c .offset) w)
+nextBy m c from Judgement.Long = Next.Refused (fault TokenTooLong (c .offset))
+nextBy m c from Judgement.Waiting = Next.More m c from
 
 -- ---- what the code asks
 

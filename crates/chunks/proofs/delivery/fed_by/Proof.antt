@@ -1,7 +1,6 @@
 -- `chunks::delivery::fed_by` meets its contract. Assumes nothing.
 use Prim.Native.Nat.{ℕ, _-_, _≤_}
 use mathlib.Core.Path.{_≡_, refl, sym, subst}
-use mathlib.Core.Bool.{Bool, false}
 use borrow.Author.Needs.{needs}
 use Rattle.lexer.specs.declared.refusal.Fault.{Fault}
 use Rattle.lexer.specs.declared.cursor.Cursor.{Cursor}
@@ -21,7 +20,7 @@ module _ (to sum : ℕ) (x : Next) (b : Behind to sum x) where
   token-left : (t : Token) (c : Cursor) → x ≡ Next.Token t c → Left to sum c
   token-left t c e = subst (Behind to sum) e b
 
-  more-left : (m : Mode) (c : Cursor) (l : Bool) → x ≡ Next.More m c l → Left to sum c
+  more-left : (m : Mode) (c : Cursor) (l : ℕ) → x ≡ Next.More m c l → Left to sum c
   more-left m c l e = subst (Behind to sum) e b
 
   token-read : (t : Token) (c : Cursor) → x ≡ Next.Token t c → c .offset ≤ sum
@@ -30,20 +29,20 @@ module _ (to sum : ℕ) (x : Next) (b : Behind to sum x) where
   token-rest : (t : Token) (c : Cursor) → x ≡ Next.Token t c → sum - c .offset ≤ to
   token-rest t c e = token-left t c e .rest
 
-  more-read : (m : Mode) (c : Cursor) (l : Bool) → x ≡ Next.More m c l → c .offset ≤ sum
+  more-read : (m : Mode) (c : Cursor) (l : ℕ) → x ≡ Next.More m c l → c .offset ≤ sum
   more-read m c l e = more-left m c l e .read
 
-  more-rest : (m : Mode) (c : Cursor) (l : Bool) → x ≡ Next.More m c l → sum - c .offset ≤ to
+  more-rest : (m : Mode) (c : Cursor) (l : ℕ) → x ≡ Next.More m c l → sum - c .offset ≤ to
   more-rest m c l e = more-left m c l e .rest
 
 module _ (r : Reader) (to sum k : ℕ) (x : Next) where
   module _ (p : Phase) (f : p ≡ r .phase) where
     token : (t : Token) (c : Cursor) → x ≡ Next.Token t c
-        → _≡_ {A = Fed} (record { reader = record { mode = Blank; cursor = c; layout = false; from = to - (sum - c .offset); to = to; phase = p }; taken = k; given = Given.Token t c }) (fedBy r to sum k x)
+        → _≡_ {A = Fed} (record { reader = record { mode = Blank; cursor = c; layout = c .offset; from = to - (sum - c .offset); to = to; phase = p }; taken = k; given = Given.Token t c }) (fedBy r to sum k x)
     unfolding fedBy
     token t c e = cc
 
-    more : (m : Mode) (c : Cursor) (l : Bool) → x ≡ Next.More m c l
+    more : (m : Mode) (c : Cursor) (l : ℕ) → x ≡ Next.More m c l
         → _≡_ {A = Fed} (record { reader = record { mode = m; cursor = c; layout = l; from = to - (sum - c .offset); to = to; phase = p }; taken = k; given = Given.More }) (fedBy r to sum k x)
     unfolding fedBy
     more m c l e = cc

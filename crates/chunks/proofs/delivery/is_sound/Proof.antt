@@ -30,12 +30,19 @@ module _ (r : Reader) where
   outside g h = cc (le-leb (r .from) (r .to) g, le-ltb (r .to) windowSize h)
 
   too-far : r .from ≤ r .to → r .to < windowSize → longest < r .cursor .offset → false ≡ sound r
-  too-far g h k = cc (le-leb (r .from) (r .to) g, lt-ltb (r .to) windowSize h, past-all (delivered r) (r .cursor) k)
+  too-far g h k = last (leb (r .layout) (r .cursor .offset)) ∙ cc (le-leb (r .from) (r .to) g, lt-ltb (r .to) windowSize h, past-all (delivered r) (r .cursor) k)
+    where
+      last : (t : Bool) → false ≡ t && false
+      last true = refl
+      last false = refl
 
-  tested : r .from ≤ r .to → r .to < windowSize → (t : Bool) → t ≡ valid (delivered r) (r .cursor) → t ≡ sound r
-  tested g h t e = cc (le-leb (r .from) (r .to) g, lt-ltb (r .to) windowSize h)
+  late-layout : r .from ≤ r .to → r .to < windowSize → r .cursor .offset < r .layout → false ≡ sound r
+  late-layout g h k = cc (le-leb (r .from) (r .to) g, lt-ltb (r .to) windowSize h, lt-leb (r .layout) (r .cursor .offset) k)
 
-ruleset ways = (backwards, outside, too-far, tested, needs)
+  tested : r .from ≤ r .to → r .to < windowSize → r .layout ≤ r .cursor .offset → (t : Bool) → t ≡ valid (delivered r) (r .cursor) → t ≡ sound r
+  tested g h k t e = cc (le-leb (r .from) (r .to) g, lt-ltb (r .to) windowSize h, le-leb (r .layout) (r .cursor .offset) k)
+
+ruleset ways = (backwards, outside, too-far, late-layout, tested, needs)
 
 -- answers
 returns : tie.Need-returns
@@ -47,15 +54,19 @@ returns-2 c = search ways
 returns-3 : tie.Need-returns-3
 returns-3 c = search ways
 
+returns-4 : tie.Need-returns-4
+returns-4 c = search ways
+
 add-is-valid : tie.Need-add-is-valid
 add-is-valid c = search ways
 
 is-valid-requires : tie.Need-is-valid-requires
 is-valid-requires c κs = search ways
 
-returns-4 : tie.Need-returns-4
-returns-4 c = search ways
+returns-5 : tie.Need-returns-5
+returns-5 c = search ways
 
 pub is-sound-spec : {M : Type 1} → statement M
 is-sound-spec =
-    tie.close (tie.spec returns returns-2 returns-3 add-is-valid is-valid-requires returns-4)
+    tie.close
+    (tie.spec returns returns-2 returns-3 returns-4 add-is-valid is-valid-requires returns-5)

@@ -1,10 +1,10 @@
 -- `chunks::hand::judged` meets its contract. Assumes nothing.
 use Prim.Native.Nat.{ℕ, _+_, _≤_}
 use mathlib.Core.Path.{_≡_, refl, sym, subst}
-use mathlib.Core.Bool.{Bool}
 use borrow.Author.Needs.{needs}
 use Rattle.lexer.specs.Cursor.{longest}
 use Rattle.lexer.specs.Refusal.{fault}
+use Rattle.lexer.specs.Token.{tokenSince}
 use Rattle.lexer.specs.declared.refusal.Fault.{Fault}
 use Rattle.lexer.specs.declared.refusal.Refusal.the-variants.{TokenTooLong}
 use Rattle.lexer.specs.declared.cursor.Cursor.{Cursor}
@@ -25,8 +25,8 @@ module _ (c : Cursor) (j : Judgement) (f : Fits c j) where
   refusal-fits : (w : Fault) → j ≡ Judgement.Refused w → c .offset + w .offset ≤ longest + 1
   refusal-fits w e = subst (Fits c) e f
 
-module _ (m : Mode) (c : Cursor) (l : Bool) (j : Judgement) (r : Next) where
-  whole : (t : Token) (d : Cursor) → j ≡ Judgement.Token t d → r ≡ Next.Token (shiftToken (c .offset) t) (movedBy c d) → r ≡ nextBy m c l j
+module _ (m : Mode) (c : Cursor) (l : ℕ) (j : Judgement) (r : Next) where
+  whole : (t : Token) (d : Cursor) → j ≡ Judgement.Token t d → r ≡ Next.Token (tokenSince l (shiftToken (c .offset) t)) (movedBy c d) → r ≡ nextBy m c l j
   unfolding nextBy
   whole t d e f = cc
 
@@ -38,7 +38,7 @@ module _ (m : Mode) (c : Cursor) (l : Bool) (j : Judgement) (r : Next) where
   unfolding nextBy
   waiting e f = cc
 
-long : (m : Mode) (c : Cursor) (l : Bool) (j : Judgement) → j ≡ Judgement.Long → Next.Refused (fault TokenTooLong (c .offset)) ≡ nextBy m c l j
+long : (m : Mode) (c : Cursor) (l : ℕ) (j : Judgement) → j ≡ Judgement.Long → Next.Refused (fault TokenTooLong (c .offset)) ≡ nextBy m c l j
 unfolding nextBy
 long m c l j e = cc
 

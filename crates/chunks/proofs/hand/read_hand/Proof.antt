@@ -1,6 +1,6 @@
 -- `chunks::hand::read_hand` meets its contract. Assumes nothing.
 use mathlib.Core.Path.{_≡_, sym, _∙_, ap}
-use mathlib.Core.Bool.{Bool, true, false}
+use mathlib.Core.Bool.{Bool}
 use mathlib.Core.List.{List}
 use Prim.Native.Nat.{ℕ}
 use borrow.Author.Needs.{needs}
@@ -14,9 +14,9 @@ use Rattle.chunks.proofs.Quick.{held-brief}
 use Rattle.chunks.proofs.hand.read_hand.Statement.{statement}
 use Rattle.chunks.proofs.hand.read_hand.Tie as tie
 
-between : (ended layout : Bool) (m : Mode) (c : Cursor) (u : List ℕ) (r : Next) → layout ≡ false → m ≡ Blank → r ≡ toNext (reading ended Blank c false u) → r ≡ toNext (reading ended m c layout u)
+between : (ended : Bool) (layout : ℕ) (m : Mode) (c : Cursor) (u : List ℕ) (r : Next) → layout ≡ c .offset → m ≡ Blank → r ≡ toNext (reading ended Blank c (c .offset) u) → r ≡ toNext (reading ended m c layout u)
 between ended layout m c u r e f g =
-    g ∙ ap (λ (x : Mode). toNext (reading ended x c false u)) (sym f) ∙ ap (λ (x : Bool). toNext (reading ended m c x u)) (sym e)
+    g ∙ ap (λ (x : Mode). toNext (reading ended x c (c .offset) u)) (sym f) ∙ ap (λ (x : ℕ). toNext (reading ended m c x u)) (sym e)
 
 ruleset ways = (held-brief, between, needs)
 
