@@ -154,7 +154,10 @@ module _ (s : List ℕ) (p : Place) (from : ℕ) (h : Starting s p from) (at : �
   able : Passable (length (drop at (handOf s))) (p .cursor)
   able = let n = size in record { short = (let k = h .able .short in omega arith); line = h .able .line; column = h .able .column }
 
-  module _ (layout ended : Bool) (j : Judgement) (f : j ≡ judgeOf layout ended (handOf rest)) where
+  module _ (l : ℕ) (ended : Bool) (j : Judgement) (f : j ≡ judgeOf (ltb l (p .cursor .offset)) ended (handOf rest)) where
+    abbrev layout : Bool
+    layout = ltb l (p .cursor .offset)
+
     same : j ≡ judgeOf layout ended (drop at (handOf s))
     same = f ∙ ap (λ (u : List ℕ). judgeOf layout ended (handOf u)) all-there ∙ ap (judgeOf layout ended) hand-from
 
@@ -164,9 +167,9 @@ module _ (s : List ℕ) (p : Place) (from : ℕ) (h : Starting s p from) (at : �
     pub start-fits : Fits (p .cursor) j
     start-fits = subst (Fits (p .cursor)) (sym same) (judgement-fits layout ended (drop at (handOf s)) some-there (p .cursor) able few-there)
 
-    pub start-tells : (l : ℕ) (r : Next) → r ≡ nextBy (p .mode) (p .cursor) l j
-        → r ≡ toNext (judged (p .mode) (p .cursor) l (drop (p .cursor .offset - from) (handOf s)) (verdict ended layout (drop (p .cursor .offset - from) (handOf s))))
-    start-tells l r g =
+    pub start-tells : (r : Next) → r ≡ nextBy (p .mode) (p .cursor) l j → r ≡ toNext (given ended l (stopped (p .mode) (p .cursor) (drop (p .cursor .offset - from) (handOf s)) Starts))
+    unfolding given
+    start-tells r g =
         g ∙ ap (nextBy (p .mode) (p .cursor) l) (same ∙ judge-told layout ended (drop at (handOf s)) some-there few-there)
         ∙ told-next (p .mode) (p .cursor) l (drop at (handOf s)) (verdict ended layout (drop at (handOf s)))
         ∙ ap (λ (i : ℕ). toNext (judged (p .mode) (p .cursor) l (drop i (handOf s)) (verdict ended layout (drop i (handOf s))))) e
@@ -222,10 +225,7 @@ module _ (s : List ℕ) (c : Cursor) (h : Held s c) (n : ℕ) (e : n ≡ length 
       tells z k q =
           q ∙ sym (ap (λ (x : Passed). toNext (given ended l x)) (passed ∙ ap (stopped (p .mode) (p .cursor) (drop (p .cursor .offset - c .offset) (handOf s))) (sym g ∙ k)))
 
-      pub held-starts-tells : y ≡ Starts
-          → r ≡ toNext (judged (p .mode) (p .cursor) l (drop (p .cursor .offset - c .offset) (handOf s)) (verdict ended (ltb l (p .cursor .offset)) (drop (p .cursor .offset - c .offset) (handOf s))))
-          → r ≡ toNext (reading ended m c l (handOf s))
-      unfolding given
+      pub held-starts-tells : y ≡ Starts → r ≡ toNext (given ended l (stopped (p .mode) (p .cursor) (drop (p .cursor .offset - c .offset) (handOf s)) Starts)) → r ≡ toNext (reading ended m c l (handOf s))
       held-starts-tells k q = tells Starts k q
 
       pub held-waits-tells : (w : Fault) → y ≡ Waits w → r ≡ cond ended (Next.Refused w) (Next.More (p .mode) (p .cursor) l) → r ≡ toNext (reading ended m c l (handOf s))

@@ -19,18 +19,17 @@ use lexer::next_token;
 ghost use mathlib.Core.Path.{_≡_};
 ghost use Prim.Native.Nat.{_+_, _-_, _<_, _≤_};
 ghost use mathlib.Core.Bool.{cond};
-ghost use lib.Dec.{ltb};
 ghost use lib.ListN.{length, drop};
 ghost use Rattle.lexer.specs.Cursor.{longest, startCursor};
 ghost use Rattle.lexer.specs.Token.{tokenSince, nextToken};
 ghost use Rattle.lexer.specs.declared.token.Source.the-variants.{File};
 ghost use Rattle.chunks.specs.Answers.{handOf};
 ghost use Rattle.chunks.specs.Hand.{toNext, nextBy, TokenFits, Fits, Held, Brief, Starting};
-ghost use Rattle.chunks.specs.Reader.{movedBy, judged as judgedBy, reading};
+ghost use Rattle.chunks.specs.Reader.{stopped, movedBy, given, reading};
 ghost use Rattle.chunks.specs.Shift.{shiftFault, shiftToken};
-ghost use Rattle.chunks.specs.Verdict.{verdict};
 ghost use Rattle.chunks.specs.declared.hand.Next.the-variants.{Token as Handed, More, Refused};
 ghost use Rattle.chunks.specs.declared.layout.Mode.the-variants.{Blank};
+ghost use Rattle.chunks.specs.declared.pass.Why.the-variants.{Starts};
 
 // The next token with the cursor behind it; where the reading stands, if more must be known; its refusal.
 pub enum Next {
@@ -106,7 +105,7 @@ fn judged(judgement: Judgement, place: Place, layout: usize) -> Next
 // The token at the place's cursor; the bytes at hand begin at `from` of the text.
 fn start_token(shown: &[u8], place: Place, layout: usize, from: usize, ended: bool) -> Next
     requires { ⌜ Starting (now shown) place from ⌝ }
-    ensures { λ r. ⌜ r ≡ toNext (judgedBy (place .mode) (place .cursor) layout (drop (place .cursor .offset - from) (handOf (now (shown .entry)))) (verdict ended (ltb layout (place .cursor .offset)) (drop (place .cursor .offset - from) (handOf (now (shown .entry)))))) ⌝ }
+    ensures { λ r. ⌜ r ≡ toNext (given ended layout (stopped (place .mode) (place .cursor) (drop (place .cursor .offset - from) (handOf (now (shown .entry)))) Starts)) ⌝ }
 {
     let cursor = place.cursor;
     let at = cursor.offset - from;
