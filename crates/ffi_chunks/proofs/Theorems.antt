@@ -2,9 +2,9 @@
 -- one number returned and one content of all that is lent are permitted. Assumes nothing.
 use Prim.Native.Nat.{ℕ, _<_}
 use mathlib.Core.Path.{_≡_, refl, sym, _∙_}
-use mathlib.Core.Bool.{Bool, true, false}
+use mathlib.Core.Bool.{true, false}
 use mathlib.Core.List.{List, [], _∷_}
-use lib.Dec.{eqb, ltb}
+use lib.Dec.{ltb}
 use lib.ListN.{set}
 use borrow.Author.Tests.{ltb-true}
 use Rattle.lexer.specs.Refusal.{numberOf}
@@ -17,7 +17,7 @@ use Rattle.chunks.specs.declared.delivery.Fed.{Fed}
 use Rattle.chunks.specs.declared.delivery.Phase.{Phase}
 use Rattle.chunks.specs.declared.delivery.Reader.{Reader}
 use Rattle.fields.specs.Fields.{Outcome, leaves as returned}
-use Rattle.ffi_chunks.specs.State.{modeNumber, slashOf, layoutNumber, phaseNumber, refusalOfPhase, refusedAt, fieldsOf, knownMode, knownRefusal, knownPhase, modeOf, refusalOf, phaseOf, known, meant, readerOf, moreNumber, givenLeaves, left, feedingLeaves}
+use Rattle.ffi_chunks.specs.State.{modeNumber, slashOf, phaseNumber, refusalOfPhase, refusedAt, fieldsOf, knownMode, knownRefusal, knownPhase, modeOf, refusalOf, phaseOf, known, meant, readerOf, moreNumber, givenLeaves, left, feedingLeaves}
 
 -- ---- back and forth, number by number
 record Named (x : Refusal) : Type 0 where
@@ -54,14 +54,6 @@ mode-back Blank = record { some = refl; same = refl }
 mode-back Line = record { some = refl; same = refl }
 mode-back (Inside s) = record { some = refl; same = refl }
 
-record LayoutBack (l : Bool) : Type 0 where
-  some : ltb (layoutNumber l) 2 ≡ true
-  same : eqb (layoutNumber l) 1 ≡ l
-
-layout-back : (l : Bool) → LayoutBack l
-layout-back true = record { some = refl; same = refl }
-layout-back false = record { some = refl; same = refl }
-
 record PhaseBack (p : Phase) : Type 0 where
   some : knownPhase (phaseNumber p) (refusalOfPhase p) (refusedAt p) ≡ true
   same : phaseOf (phaseNumber p) (refusalOfPhase p) (refusedAt p) ≡ p
@@ -75,17 +67,17 @@ phase-back (Phase.Refused w) = record { some = named (w .refusal) .some; same = 
 -- ---- a reader that is put down is read back as it was
 known-back : (r : Reader) (k : ℕ) → known (fieldsOf r k) ≡ true
 unfolding known
-known-back r k = cc (mode-back (r .mode) .some, layout-back (r .layout) .some, phase-back (r .phase) .some)
+known-back r k = cc (mode-back (r .mode) .some, phase-back (r .phase) .some)
 
-with-parts : Reader → Mode → Bool → Phase → Reader
-with-parts r m l p = record { mode = m; cursor = r .cursor; layout = l; from = r .from; to = r .to; phase = p }
+with-parts : Reader → Mode → Phase → Reader
+with-parts r m p = record { mode = m; cursor = r .cursor; layout = r .layout; from = r .from; to = r .to; phase = p }
 
-put-together : (r : Reader) (m : Mode) (l : Bool) (p : Phase) → m ≡ r .mode → l ≡ r .layout → p ≡ r .phase → with-parts r m l p ≡ with-parts r (r .mode) (r .layout) (r .phase)
-put-together r m l p e f g = cc
+put-together : (r : Reader) (m : Mode) (p : Phase) → m ≡ r .mode → p ≡ r .phase → with-parts r m p ≡ with-parts r (r .mode) (r .phase)
+put-together r m p e f = cc
 
 meant-back : (r : Reader) (k : ℕ) → meant (fieldsOf r k) ≡ r
 unfolding with-parts
-meant-back r k = put-together r _ _ _ (mode-back (r .mode) .same) (layout-back (r .layout) .same) (phase-back (r .phase) .same)
+meant-back r k = put-together r _ _ (mode-back (r .mode) .same) (phase-back (r .phase) .same)
 
 as-meant : (d : List ℕ) → known d ≡ true → readerOf d ≡ meant d
 unfolding readerOf

@@ -30,9 +30,6 @@ slashOf Blank = 0
 slashOf Line = 0
 slashOf (Inside s) = s
 
-abbrev pub layoutNumber : Bool → ℕ
-layoutNumber l = cond l 1 0
-
 abbrev pub phaseNumber : Phase → ℕ
 phaseNumber Phase.Open = 0
 phaseNumber Phase.Ended = 1
@@ -53,7 +50,7 @@ abbrev pub fieldsOf : Reader → ℕ → List ℕ
 fieldsOf r k =
     modeNumber (r .mode) ∷ slashOf (r .mode) ∷
     r .cursor .offset ∷ r .cursor .line ∷ r .cursor .column ∷
-    layoutNumber (r .layout) ∷ r .from ∷ r .to ∷
+    r .layout ∷ r .from ∷ r .to ∷
     phaseNumber (r .phase) ∷ refusalOfPhase (r .phase) ∷ refusedAt (r .phase) ∷
     k ∷ []
 
@@ -99,14 +96,14 @@ abbrev pub field : List ℕ → ℕ → ℕ
 field d i = getD d i 0
 
 unfoldable pub known : List ℕ → Bool
-known d = knownMode (field d 0) (field d 1) && ltb (field d 5) 2 && knownPhase (field d 8) (field d 9) (field d 10)
+known d = knownMode (field d 0) (field d 1) && knownPhase (field d 8) (field d 9) (field d 10)
 
 abbrev pub meant : List ℕ → Reader
 meant d =
     record {
       mode = modeOf (field d 0) (field d 1);
       cursor = cursorAt (field d 2) (field d 3) (field d 4);
-      layout = eqb (field d 5) 1;
+      layout = field d 5;
       from = field d 6;
       to = field d 7;
       phase = phaseOf (field d 8) (field d 9) (field d 10);
@@ -114,7 +111,7 @@ meant d =
 
 -- in place of numbers that no reader has: a reader that is not sound, so that it is refused by 8
 abbrev pub madeUp : Reader
-madeUp = record { mode = Blank; cursor = startCursor; layout = false; from = 1; to = 0; phase = Phase.Open }
+madeUp = record { mode = Blank; cursor = startCursor; layout = 0; from = 1; to = 0; phase = Phase.Open }
 
 -- the twelfth number is not read
 unfoldable pub readerOf : List ℕ → Reader

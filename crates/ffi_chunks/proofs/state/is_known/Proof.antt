@@ -1,10 +1,9 @@
 -- `ffi_chunks::state::is_known` meets its contract. Assumes nothing.
-use Prim.Native.Nat.{ℕ, _<_, _≤_}
+use Prim.Native.Nat.{ℕ}
 use mathlib.Core.Path.{_≡_}
 use mathlib.Core.Bool.{Bool, true, false}
 use mathlib.Core.List.{List}
 use borrow.Author.Needs.{needs}
-use borrow.Author.Tests.{le-ltb, lt-ltb}
 use Rattle.ffi_chunks.specs.State.{field, knownMode, knownPhase, known}
 use Rattle.ffi_chunks.proofs.state.is_known.Statement.{statement}
 use Rattle.ffi_chunks.proofs.state.is_known.Tie as tie
@@ -14,16 +13,11 @@ module _ (d : List ℕ) (m : Bool) (e : m ≡ knownMode (field d 0) (field d 1))
   unfolding known
   no-mode h = cc
 
-  module _ (h : m ≡ true) where
-    no-layout : 2 ≤ field d 5 → false ≡ known d
-    unfolding known
-    no-layout l = cc (le-ltb (field d 5) 2 l)
+  of-phase : (p : Bool) → m ≡ true → p ≡ knownPhase (field d 8) (field d 9) (field d 10) → p ≡ known d
+  unfolding known
+  of-phase p h q = cc
 
-    of-phase : (p : Bool) → field d 5 < 2 → p ≡ knownPhase (field d 8) (field d 9) (field d 10) → p ≡ known d
-    unfolding known
-    of-phase p l q = cc (lt-ltb (field d 5) 2 l)
-
-ruleset ways = (no-mode, no-layout, of-phase, needs)
+ruleset ways = (no-mode, of-phase, needs)
 
 -- answers
 element-copy-out-is-mode : tie.Need-element-copy-out-is-mode
@@ -34,9 +28,6 @@ element-copy-out-is-mode-2 c = search ways
 
 is-mode-requires : tie.Need-is-mode-requires
 is-mode-requires c κs = search ways
-
-element-copy-out-if2 : tie.Need-element-copy-out-if2
-element-copy-out-if2 c = search ways
 
 element-copy-out-is-phase : tie.Need-element-copy-out-is-phase
 element-copy-out-is-phase c = search ways
@@ -56,9 +47,6 @@ returns c = search ways
 returns-2 : tie.Need-returns-2
 returns-2 c = search ways
 
-returns-3 : tie.Need-returns-3
-returns-3 c = search ways
-
 pub is-known-spec : {M : Type 1} → statement M
 is-known-spec =
     tie.close
@@ -66,11 +54,9 @@ is-known-spec =
     element-copy-out-is-mode
     element-copy-out-is-mode-2
     is-mode-requires
-    element-copy-out-if2
     element-copy-out-is-phase
     element-copy-out-is-phase-2
     element-copy-out-is-phase-3
     is-phase-requires
     returns
-    returns-2
-    returns-3)
+    returns-2)

@@ -2,7 +2,6 @@
 use Prim.Native.Nat.{ℕ}
 use mathlib.Core.Path.{_≡_}
 use mathlib.Core.List.{List}
-use lib.Dec.{eqb}
 use borrow.Author.Needs.{needs}
 use Rattle.fields.specs.Fields.{cursorAt}
 use Rattle.chunks.specs.declared.layout.Mode.{Mode}
@@ -12,7 +11,7 @@ use Rattle.ffi_chunks.specs.State.{field, modeOf, phaseOf, meant}
 use Rattle.ffi_chunks.proofs.state.meant_by.Statement.{statement}
 use Rattle.ffi_chunks.proofs.state.meant_by.Tie as tie
 
-put-together : (d : List ℕ) (m : Mode) (p : Phase) → m ≡ modeOf (field d 0) (field d 1) → p ≡ phaseOf (field d 8) (field d 9) (field d 10) → _≡_ {A = Reader} (record { mode = m; cursor = cursorAt (field d 2) (field d 3) (field d 4); layout = eqb (field d 5) 1; from = field d 6; to = field d 7; phase = p }) (meant d)
+put-together : (d : List ℕ) (m : Mode) (p : Phase) → m ≡ modeOf (field d 0) (field d 1) → p ≡ phaseOf (field d 8) (field d 9) (field d 10) → _≡_ {A = Reader} (record { mode = m; cursor = cursorAt (field d 2) (field d 3) (field d 4); layout = field d 5; from = field d 6; to = field d 7; phase = p }) (meant d)
 put-together d m p e f = cc
 
 ruleset ways = (put-together, needs)

@@ -4,12 +4,12 @@ use mathlib.Core.Path.{_≡_}
 use mathlib.Core.List.{[], _∷_}
 use borrow.Author.Needs.{needs}
 use Rattle.chunks.specs.declared.delivery.Reader.{Reader}
-use Rattle.ffi_chunks.specs.State.{modeNumber, slashOf, layoutNumber, phaseNumber, refusalOfPhase, refusedAt, fieldsOf}
+use Rattle.ffi_chunks.specs.State.{modeNumber, slashOf, phaseNumber, refusalOfPhase, refusedAt, fieldsOf}
 use Rattle.ffi_chunks.proofs.state.put_reader.Statement.{statement}
 use Rattle.ffi_chunks.proofs.state.put_reader.Tie as tie
 
-put-down : (r : Reader) (k m s l p n a : ℕ) → m ≡ modeNumber (r .mode) → s ≡ slashOf (r .mode) → l ≡ layoutNumber (r .layout) → p ≡ phaseNumber (r .phase) → n ≡ refusalOfPhase (r .phase) → a ≡ refusedAt (r .phase) → m ∷ s ∷ r .cursor .offset ∷ r .cursor .line ∷ r .cursor .column ∷ l ∷ r .from ∷ r .to ∷ p ∷ n ∷ a ∷ k ∷ [] ≡ fieldsOf r k
-put-down r k m s l p n a e f g h i j = cc
+put-down : (r : Reader) (k m s p n a : ℕ) → m ≡ modeNumber (r .mode) → s ≡ slashOf (r .mode) → p ≡ phaseNumber (r .phase) → n ≡ refusalOfPhase (r .phase) → a ≡ refusedAt (r .phase) → m ∷ s ∷ r .cursor .offset ∷ r .cursor .line ∷ r .cursor .column ∷ r .layout ∷ r .from ∷ r .to ∷ p ∷ n ∷ a ∷ k ∷ [] ≡ fieldsOf r k
+put-down r k m s p n a e f g h i = cc
 
 ruleset ways = (put-down, needs)
 
@@ -19,9 +19,6 @@ mode-number-requires c κs = search ways
 
 slash-of-requires : tie.Need-slash-of-requires
 slash-of-requires c κs = search ways
-
-layout-number-requires : tie.Need-layout-number-requires
-layout-number-requires c κs = search ways
 
 phase-number-requires : tie.Need-phase-number-requires
 phase-number-requires c κs = search ways
@@ -41,7 +38,6 @@ put-reader-spec =
     (tie.spec
     mode-number-requires
     slash-of-requires
-    layout-number-requires
     phase-number-requires
     refusal-of-phase-requires
     refused-at-requires
