@@ -16,3 +16,57 @@ abbrev μ-loop : tie.MeasureT-loop
 ruleset ways = (layout-nearer, needs)
 
 -- answers
+loop-holds : tie.Need-loop-holds Inv-loop μ-loop
+loop-holds c = search ways
+
+next-layout-requires : tie.Need-next-layout-requires Inv-loop μ-loop
+next-layout-requires c κs = search ways
+
+layout-line-requires : tie.Need-layout-line-requires Inv-loop μ-loop
+layout-line-requires c κs = search ways
+
+enum-known-answer : tie.Need-enum-known-answer Inv-loop μ-loop
+enum-known-answer c = search ways
+
+loop-less : tie.Need-loop-less Inv-loop μ-loop
+loop-less c = search ways
+
+loop-again : tie.Need-loop-again Inv-loop μ-loop
+loop-again c = search ways
+
+enum-told : tie.Need-enum-told Inv-loop μ-loop
+enum-told c = search ways
+
+same-length : tie.Need-same-length Inv-loop μ-loop
+same-length c = search ways
+
+returns : tie.Need-returns Inv-loop μ-loop
+returns c = search ways
+
+enum-told-2 : tie.Need-enum-told-2 Inv-loop μ-loop
+enum-told-2 c = search ways
+
+same-length-2 : tie.Need-same-length-2 Inv-loop μ-loop
+same-length-2 c = search ways
+
+returns-2 : tie.Need-returns-2 Inv-loop μ-loop
+returns-2 c = search ways
+
+pub layout-lines-spec : {M : Type 1} → statement M
+layout-lines-spec =
+    tie.close
+    (tie.spec
+    Inv-loop
+    μ-loop
+    loop-holds
+    next-layout-requires
+    layout-line-requires
+    enum-known-answer
+    loop-less
+    loop-again
+    enum-told
+    same-length
+    returns
+    enum-told-2
+    same-length-2
+    returns-2)
