@@ -1,8 +1,8 @@
-/* The Prolog reader, for C: bytes in; tokens, or a clause's tree, line or image, out; and an image's nodes.
+/* The Prolog reader, for C: bytes in; tokens and the layout between them, or a clause's tree, line or image, out; and an image's nodes.
  *
- * Each function of the archive is proved, for every argument, to answer as the call of the library that its name says (crates/ffi_token, ffi_clause,
- * ffi_chunks, ffi_pack, ffi_forms and ffi); what that answer is stands in docs/CLAIMS.md. It allocates nothing, keeps nothing between two calls and writes
- * only what it is lent, so several threads may call at once.
+ * Each function of the archive is proved, for every argument, to answer as the call of the library that its name says (crates/ffi_token, ffi_layout,
+ * ffi_clause, ffi_chunks, ffi_pack, ffi_forms and ffi); what that answer is stands in docs/CLAIMS.md. It allocates nothing, keeps nothing between two calls
+ * and writes only what it is lent, so several threads may call at once.
  *
  * A text is of ASCII. Its lines end with byte 10, or with the bytes 13 and 10, as a file was saved; lines are counted by byte 10, and byte 13 is layout.
  *
@@ -117,6 +117,14 @@ enum thrinvage_kind {
     THRINVAGE_END = 14 /* the end mark, with a newline right behind it; a return (byte 13) there is left, and the newline behind that */
 };
 
+/* The field `kind` of a layout text. */
+enum thrinvage_layout_kind {
+    THRINVAGE_NO_LAYOUT = 0,        /* none is there */
+    THRINVAGE_BLANKS = 1,           /* blanks, tabs, newlines and returns (byte 13), as many as stand together */
+    THRINVAGE_LINE_COMMENT = 2,     /* from a `%` up to and including its newline, or to the end of the text */
+    THRINVAGE_BRACKETED_COMMENT = 3 /* from its slash and star up to and including the first star and slash behind them: comments do not nest */
+};
+
 /* A token's field `value_kind`. A token has no sign: a tree's negative number has it, and the value of the number behind its minus is the magnitude.
  * The lowest integer's is one more than an int64_t holds, so `-(int64_t)value` overflows. This does not: `value == 0 ? 0 : -1 - (int64_t)(value - 1)`.
  * The integer of a plain node fits in an int64_t. */
@@ -147,7 +155,9 @@ enum thrinvage_node {
     THRINVAGE_EMPTY_CURLY = 9  /* {} */
 };
 
-/* These structs begin with the cursor behind what was read: hand it back in to go on. A text starts at 0, 0, 0. */
+/* These structs begin with the cursor behind what was read: hand it back in to go on. A text starts at 0, 0, 0.
+ * The field `layout` of a token is newer than the others. A program that was compiled with a header without it must be compiled anew: nine numbers are
+ * written, and it has room for eight. */
 struct thrinvage_token {
     uint64_t offset;     /* of the cursor behind the token, where its span ends */
     uint64_t line;       /* newlines (byte 10) before that cursor */
@@ -157,6 +167,7 @@ struct thrinvage_token {
     uint64_t start;      /* where the token starts, behind layout and comments */
     uint64_t value_kind; /* enum thrinvage_value_kind */
     uint64_t value;
+    uint64_t layout;     /* where the layout before the token began: at the offset handed in; of thrinvage_feed, at the end of the token before, or at 0 */
 };
 
 struct thrinvage_token_text {
@@ -164,6 +175,15 @@ struct thrinvage_token_text {
     uint64_t part; /* enum thrinvage_part */
     uint64_t part_start;
     uint64_t part_end;
+};
+
+struct thrinvage_layout {
+    uint64_t offset;     /* of the cursor behind the layout text, where its span ends */
+    uint64_t line;       /* as a token's */
+    uint64_t column;
+    uint64_t refused_at; /* the refusal's offset, after a refusal; else 0 */
+    uint64_t kind;       /* enum thrinvage_layout_kind */
+    uint64_t start;      /* where the layout text starts: at the offset handed in */
 };
 
 struct thrinvage_clause {
@@ -182,6 +202,40 @@ uint32_t thrinvage_next_token(const uint8_t *text, size_t length, size_t offset,
  * that is not quoted stays in the text, and nothing is written to the scratch. A decoded text is never longer than its source. */
 uint32_t thrinvage_next_token_text(const uint8_t *text, size_t length, size_t offset, size_t line, size_t column, uint8_t *scratch, size_t room,
                                    struct thrinvage_token_text *token);
+
+/* The layout text at the cursor, one at a time: blanks, or a comment. Where none is there it returns 0 too: `kind` is THRINVAGE_NO_LAYOUT then, the cursor
+ * and `start` are as they were handed in, and a token starts there, or a back quote. It refuses what the token call refuses there before it has come to a
+ * token, by the same number at the same place: 1 where the text has ended, or ends right behind a slash or a comment's opening mark; 2; 5; and 8.
+ *
+ * So each byte of a text that is read is in one token or in one layout text, and in no other: from a token's `layout` to its `start` there are layout
+ * texts, one behind another, and from there to its `offset` is the token. (An end mark's newline is the mark's own.) An editor colours a text by that; this
+ * program prints it. The token call is made from where the last token ends, and not from behind the layout: it must see whether some stands before a `(`.
+ *
+ *     #include <stdio.h>
+ *     #include "thrinvage.h"
+ *     static uint8_t text[THRINVAGE_LONGEST_TEXT + 1];
+ *     static size_t length;
+ *     static struct thrinvage_layout at; // what was coloured last: its cursor is where we stand
+ *     static void colour(const char *as, uint64_t start, uint64_t end) {
+ *         printf("%d..%d %s\n", (int)start, (int)end, as);
+ *     }
+ *     static void colour_layout(void) { // as far as it goes
+ *         while (thrinvage_next_layout(text, length, at.offset, at.line, at.column, &at) == THRINVAGE_READ && at.kind != THRINVAGE_NO_LAYOUT)
+ *             colour(at.kind == THRINVAGE_BLANKS ? "blanks" : "comment", at.start, at.offset);
+ *     }
+ *     int main(void) {
+ *         struct thrinvage_token t;
+ *         length = fread(text, 1, sizeof text, stdin);
+ *         while (thrinvage_next_token(text, length, at.offset, at.line, at.column, &t, THRINVAGE_FILE) == THRINVAGE_READ) {
+ *             colour_layout(); // from t.layout to t.start
+ *             colour("token", t.start, t.offset);
+ *             at.offset = t.offset, at.line = t.line, at.column = t.column;
+ *         }
+ *         colour_layout(); // behind the last token
+ *         return 0;
+ *     }
+ */
+uint32_t thrinvage_next_layout(const uint8_t *text, size_t length, size_t offset, size_t line, size_t column, struct thrinvage_layout *layout);
 
 /* The tokens up to an end mark, as a tree: children left to right, then their parent, the root last; two numbers a node, the index of its
  * token in the clause, from 0, and its kind times 1,024 plus the count of its children. `room` counts numbers. examples/c/tree.c walks a tree. */
@@ -214,6 +268,8 @@ uint32_t thrinvage_list_clause(const uint8_t *text, size_t length, size_t offset
  * refusal each call repeats it.
  *
  * A reader may be kept between two calls for as long as it takes, copied, or stored and taken up by another program: the struct and its window together.
+ * But one that was stored by a program with an older header, in which a token has no field `layout`, must not be taken up: the reader's number `layout`
+ * meant something else there, 0 or 1, and would be taken for an offset.
  * The window is the reader's own, and must have the same bytes from call to call; before the first, any. A struct that no function wrote is refused by 8 at
  * 0 if its numbers cannot be a reader's; if they can, it is read as one that has them, and nothing is touched but what was lent. */
 
@@ -227,7 +283,7 @@ struct thrinvage_reader {
     uint64_t offset;     /* of the first byte at hand */
     uint64_t line;       /* newlines (byte 10) before it */
     uint64_t column;     /* characters since the last of them */
-    uint64_t layout;     /* 1 if layout or a comment was passed since the last token, else 0 */
+    uint64_t layout;     /* where the layout since the last token began; `offset` itself where none was passed */
     uint64_t from;       /* the bytes at hand stand in the window from here .. */
     uint64_t to;         /* .. to before this */
     uint64_t phase;      /* 0 the text goes on, 1 it has ended, 2 it was refused */
@@ -347,29 +403,15 @@ uint32_t thrinvage_move_up(const uint8_t *image, size_t length, uint8_t *out, si
 uint32_t thrinvage_move_down(const uint8_t *image, size_t length, uint8_t *out, size_t room, uint64_t *moved);
 
 /* Returns the offset of the first byte that is no layout, at the offset given or behind it; the text's length where there is none. Layout is blanks, tabs,
- * newlines, returns and whole comments: a `%` comment may end with the text, and a bracketed comment that is not closed is none, from its slash on. The
- * next token starts there, also one that was cut off. It is no part of the archive, and is tested, not proved: examples/run compares it with the token
- * call. */
+ * newlines, returns and whole comments: a `%` comment may end with the text. A bracketed comment that is not closed is none, from its slash on, nor is a
+ * comment in which a foreign byte stands, from its first byte on: it is refused. The next token starts at the offset returned, also one that was cut off.
+ * In a text of more than 65,535 bytes, which every call refuses, that is the offset given.
+ * It is no part of the archive, but a loop over a function that is. */
 static inline size_t thrinvage_layout_end(const uint8_t *text, size_t length, size_t offset) {
-    while (offset < length) {
-        uint8_t byte = text[offset];
-        if (byte == ' ' || byte == '\t' || byte == '\n' || byte == '\r') {
-            offset++;
-        } else if (byte == '%') {
-            while (offset < length && text[offset] != '\n')
-                offset++;
-        } else if (byte == '/' && offset + 1 < length && text[offset + 1] == '*') {
-            size_t close = offset + 2; /* of the first star that a slash follows */
-            while (close + 1 < length && !(text[close] == '*' && text[close + 1] == '/'))
-                close++;
-            if (close + 1 >= length)
-                return offset;
-            offset = close + 2;
-        } else {
-            return offset;
-        }
+    struct thrinvage_layout at = {offset, 0, 0, 0, 0, 0};
+    while (thrinvage_next_layout(text, length, at.offset, at.line, at.column, &at) == THRINVAGE_READ && at.kind != THRINVAGE_NO_LAYOUT) {
     }
-    return length;
+    return at.offset < length ? at.offset : length;
 }
 
 /* Was the last clause cut off? `a. ` and `a. b :- c` both end in refusal 1 at the text's length. Behind the last end mark the first has layout alone, the
@@ -378,8 +420,7 @@ static inline size_t thrinvage_layout_end(const uint8_t *text, size_t length, si
  * A text that was cut between two clauses, in a `%` comment, or behind a dot that then ends a clause (`X is 1.` of `X is 1.5. `) looks whole: only a last
  * clause that was agreed on, as `end_of_file.`, tells those.
  *
- * Returns 1 if nothing but layout stands behind the offset, else 0: the clause that was cut off then starts at thrinvage_layout_end. It is tested, not
- * proved, like that one. */
+ * Returns 1 if nothing but layout stands behind the offset, else 0: the clause that was cut off then starts at thrinvage_layout_end. */
 static inline int thrinvage_only_layout(const uint8_t *text, size_t length, size_t offset) {
     return thrinvage_layout_end(text, length, offset) == length;
 }

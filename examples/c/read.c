@@ -1,11 +1,11 @@
 /* Prints what the reader reads.
  *
- *     read tokens|texts|clauses|listing|whole [FILE]    of a file, or of standard input
- *     read field TEXT                                   the tokens of what was typed into a field
+ *     read tokens|texts|stretches|clauses|listing|whole [FILE]    of a file, or of standard input
+ *     read field TEXT                                             the tokens of what was typed into a field
  *
  * A line is as the probe (docs/PROBE.md) or the listing program writes it. The last one is the refusal that ended the text: number 1, at the
- * text's length, where all of it was read. `whole` says `whole`, or what is wrong and where: as compilers do, so that an editor can go there, with the
- * line and a caret below the byte.
+ * text's length, where all of it was read. `stretches` says what each byte of the text is part of: a token, blanks or a comment. `whole` says `whole`, or
+ * what is wrong and where: as compilers do, so that an editor can go there, with the line and a caret below the byte.
  */
 #include <inttypes.h>
 #include <stdio.h>
@@ -57,6 +57,62 @@ static void print_texts(const struct input *s) {
             number = thrinvage_next_token(s->text, s->length, k->offset, k->line, k->column, k, THRINVAGE_FILE);
     } while (number == THRINVAGE_READ);
     print_refused(number, k->refused_at, k->offset, k->line, k->column);
+}
+
+/* A part of the text, what it is, and the place of its first byte. */
+struct stretch {
+    const char *kind;
+    uint64_t start, end, line, column;
+};
+
+static void print_byte(uint8_t byte) {
+    switch (byte) {
+    case '\n': printf("\\n"); break;
+    case '\r': printf("\\r"); break;
+    case '\t': printf("\\t"); break;
+    case '"': printf("\\\""); break;
+    case '\\': printf("\\\\"); break;
+    default: printf(byte < ' ' || byte > '~' ? "\\x%02x" : "%c", byte);
+    }
+}
+
+/* Where it starts and ends, its line and column from 1, and its bytes on one line, with escapes as in C. */
+static void print_stretch(const struct input *s, const struct stretch *part) {
+    printf("%5" PRIu64 "..%-5" PRIu64 " %4" PRIu64 ":%-3" PRIu64 " %-17s \"", part->start, part->end, part->line + 1, part->column + 1, part->kind);
+    for (uint64_t i = part->start; i < part->end; i++)
+        print_byte(s->text[i]);
+    puts("\"");
+}
+
+/* In the order of enum thrinvage_layout_kind. */
+static const char *const LAYOUT_KINDS[] = {"none", "blanks", "line_comment", "bracketed_comment"};
+
+/* One layout text behind another, and the cursor goes along: to where none is, or one is refused. */
+static void print_layout(const struct input *s, struct thrinvage_layout *at) {
+    struct thrinvage_layout before = *at;
+    while (thrinvage_next_layout(s->text, s->length, at->offset, at->line, at->column, at) == THRINVAGE_READ && at->kind != THRINVAGE_NO_LAYOUT) {
+        print_stretch(s, &(struct stretch){LAYOUT_KINDS[at->kind], at->start, at->offset, before.line, before.column});
+        before = *at;
+    }
+}
+
+/* All bytes, each in one stretch. The token call is made before the layout is passed: so it sees whether some stands before a `(`. Behind a refusal the
+ * layout that is still whole has its stretches, and the rest is one that was not read. */
+static void print_stretches(const struct input *s) {
+    struct thrinvage_layout at = {0};
+    struct thrinvage_token t = {0};
+    uint32_t number;
+    while ((number = thrinvage_next_token(s->text, s->length, at.offset, at.line, at.column, &t, s->source)) == THRINVAGE_READ) {
+        print_layout(s, &at);
+        print_stretch(s, &(struct stretch){KINDS[t.kind], t.start, t.offset, at.line, at.column});
+        at.offset = t.offset;
+        at.line = t.line;
+        at.column = t.column;
+    }
+    print_layout(s, &at);
+    if (at.offset < s->length && number != THRINVAGE_NOT_VALID) /* that is for a text that is too long: it may go on behind what is here */
+        print_stretch(s, &(struct stretch){"not_read", at.offset, s->length, at.line, at.column});
+    printf("refused %" PRIu32 " at %" PRIu64 "\n", number, t.refused_at);
 }
 
 /* Two numbers a node, children before their parent: the index of its token in the clause; its kind (enum thrinvage_node) times 1,024 plus
@@ -161,7 +217,8 @@ static void print_whole(const struct input *s) {
 static const struct {
     const char *name;
     void (*print)(const struct input *s);
-} MODES[] = {{"tokens", print_tokens}, {"texts", print_texts}, {"clauses", print_clauses}, {"listing", print_listing}, {"whole", print_whole}};
+} MODES[] = {{"tokens", print_tokens},   {"texts", print_texts},     {"stretches", print_stretches},
+             {"clauses", print_clauses}, {"listing", print_listing}, {"whole", print_whole}};
 
 /* Reads the file, or standard input where none is named, and prints it in this mode. */
 static int print_file(void (*print)(const struct input *s), const char *name) {
@@ -185,6 +242,6 @@ int main(int count, char **words) {
         for (size_t i = 0; i < sizeof MODES / sizeof MODES[0]; i++)
             if (strcmp(words[1], MODES[i].name) == 0)
                 return print_file(MODES[i].print, words[2]);
-    fprintf(stderr, "usage: read tokens|texts|clauses|listing|whole [FILE]\n       read field TEXT\n");
+    fprintf(stderr, "usage: read tokens|texts|stretches|clauses|listing|whole [FILE]\n       read field TEXT\n");
     return 2;
 }

@@ -31,7 +31,7 @@ static inline void print_token(const struct thrinvage_token *t) {
     printf("token %s %" PRIu64, KINDS[t->kind], t->start);
     print_cursor(t->offset, t->line, t->column);
     print_value(t);
-    putchar('\n');
+    printf(" %" PRIu64 "\n", t->layout);
 }
 
 #endif

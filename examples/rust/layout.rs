@@ -1,11 +1,12 @@
 //! Compares `only_layout_behind` with the token call, on every text of up to six bytes out of thirteen, and `Tokens::ended_whole` too. A newline and a
 //! comma are put behind the text: the comma is then the first token exactly if nothing but layout stands before it, and the token before the comma is an
 //! end mark, or there is none, exactly if the text was whole. At every offset `layout_end` is where the first token starts, or the text's length if that is
-//! the comma. Prints the counts; status 1 says that something differs.
+//! the comma; and the layout call leads from there, text by text, to where the token call has its token, or to the same refusal. Prints the counts; status 1
+//! says that something differs.
 mod thrinvage;
 
 use std::process::ExitCode;
-use thrinvage::{Cursor, END_OF_TEXT, Kind, Scanner, Source, layout_end, next_token, only_layout_behind, tokens};
+use thrinvage::{Cursor, END_OF_TEXT, Kind, Refusal, Scanner, Source, layout_end, next_layout, next_token, only_layout_behind, tokens};
 
 const FOREIGN_BYTE: u32 = 5; // the refusal of a byte outside ISO's characters, in comments too
 const LONGEST: usize = 6;
@@ -57,6 +58,30 @@ fn ends_at_token(text: &[u8], longer: &[u8], at: Cursor) -> bool {
     layout_end(text, at) == start.min(text.len())
 }
 
+/// From the cursor on, one layout text behind another, to the cursor where none is, or to the refusal of one; `None` if one does not start where the one
+/// before it ended, or is empty.
+fn pass_layout(text: &[u8], mut at: Cursor) -> Option<Result<Cursor, Refusal>> {
+    loop {
+        match next_layout(text, at) {
+            Err(refusal) => return Some(Err(refusal)),
+            Ok(None) => return Some(Ok(at)),
+            Ok(Some(layout)) if layout.start != at.offset || layout.next.offset <= at.offset => return None,
+            Ok(Some(layout)) => at = layout.next,
+        }
+    }
+}
+
+/// Whether the layout texts lead from the cursor to the token's start, and the token says where they began; or to the token call's own refusal. What is
+/// refused in the token itself is refused there or behind.
+fn leads_to_token(text: &[u8], at: Cursor) -> bool {
+    pass_layout(text, at).is_some_and(|passed| match (passed, next_token(text, at, Source::File)) {
+        (Ok(end), Ok(token)) => token.start == end.offset && token.layout == at.offset,
+        (Ok(end), Err(refusal)) => refusal.offset >= end.offset,
+        (Err(one), Err(other)) => one == other,
+        (Err(_), Ok(_)) => false,
+    })
+}
+
 /// This text, and each that goes on from it.
 fn try_from(text: &mut Vec<u8>, counts: &mut Counts) {
     let longer = [text, b"\n,".as_slice()].concat();
@@ -66,7 +91,8 @@ fn try_from(text: &mut Vec<u8>, counts: &mut Counts) {
     counts.differ += (layout != by_function(text)) as u64;
     counts.differ += (whole_by_comma(&longer) != whole_by_iterator(text)) as u64;
     for offset in 0..=text.len() {
-        counts.differ += !ends_at_token(text, &longer, Cursor { offset, ..Cursor::default() }) as u64;
+        let at = Cursor { offset, ..Cursor::default() };
+        counts.differ += !ends_at_token(text, &longer, at) as u64 + !leads_to_token(text, at) as u64;
     }
     if text.len() < LONGEST {
         for byte in BYTES {

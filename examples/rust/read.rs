@@ -1,25 +1,26 @@
 //! Prints what the reader reads.
 //!
 //! ```text
-//! read tokens|texts|clauses|listing|whole [FILE]    of a file, or of standard input
-//! read field TEXT                                   the tokens of what was typed into a field
+//! read tokens|texts|stretches|clauses|listing|whole [FILE]    of a file, or of standard input
+//! read field TEXT                                             the tokens of what was typed into a field
 //! ```
 //!
 //! A line is as the probe (docs/PROBE.md) or the listing program writes it. The last one is the refusal that ended the text: number 1, at the
-//! text's length, where all of it was read. `whole` says `whole`, or what is wrong and where: as compilers do, so that an editor can go there, with the
-//! line and a caret below the byte.
+//! text's length, where all of it was read. `stretches` says what each byte of the text is part of: a token, blanks or a comment. `whole` says `whole`, or
+//! what is wrong and where: as compilers do, so that an editor can go there, with the line and a caret below the byte.
 mod thrinvage;
 mod tokens;
 
 use std::env::args;
 use std::fs::File;
 use std::io::{Error, Read, Result, Write, stdin, stdout};
+use std::ops::Range;
 use std::process::ExitCode;
-use thrinvage::{Cursor, LINE_BYTES, LONGEST_TEXT, Part, Refusal, Source, TREE_NUMBERS};
+use thrinvage::{Cursor, LINE_BYTES, LONGEST_TEXT, LayoutKind, Part, Refusal, Source, TREE_NUMBERS};
 use thrinvage::{
-    END_OF_TEXT, NO_TEXT, NOT_VALID, layout_end, list_clause, next_token, next_token_text, only_layout_behind, read_clause,
+    END_OF_TEXT, NO_TEXT, NOT_VALID, layout_end, list_clause, next_layout, next_token, next_token_text, only_layout_behind, read_clause,
 };
-use tokens::{print_token, shown_cursor};
+use tokens::{kind_name, print_token, shown_cursor};
 
 /// The refusal, and the cursor where it was met.
 fn print_refused(out: &mut impl Write, refusal: Refusal, at: Cursor) -> Result<()> {
@@ -66,6 +67,64 @@ fn print_texts(out: &mut impl Write, text: &[u8]) -> Result<()> {
             Err(refusal) => return print_refused(out, refusal, at),
         }
     }
+}
+
+fn shown_byte(byte: u8) -> String {
+    match byte {
+        b'\n' => "\\n".to_string(),
+        b'\r' => "\\r".to_string(),
+        b'\t' => "\\t".to_string(),
+        b'"' | b'\\' => format!("\\{}", byte as char),
+        b' '..=b'~' => (byte as char).to_string(),
+        _ => format!("\\x{byte:02x}"),
+    }
+}
+
+/// A part of the text, what it is, and the place of its first byte: where it starts and ends, its line and column from 1, and its bytes on one line, with
+/// escapes as in C.
+fn print_stretch(out: &mut impl Write, text: &[u8], kind: &str, part: Range<usize>, at: Cursor) -> Result<()> {
+    let (line, column) = (at.line + 1, at.column + 1);
+    let shown: String = text[part.clone()].iter().map(|&byte| shown_byte(byte)).collect();
+    writeln!(out, "{:5}..{:<5} {line:4}:{column:<3} {kind:17} \"{shown}\"", part.start, part.end)
+}
+
+fn layout_name(kind: LayoutKind) -> &'static str {
+    match kind {
+        LayoutKind::Blanks => "blanks",
+        LayoutKind::LineComment => "line_comment",
+        LayoutKind::BracketedComment => "bracketed_comment",
+    }
+}
+
+/// One layout text behind another: to the cursor where none is, or one is refused.
+fn print_layout(out: &mut impl Write, text: &[u8], mut at: Cursor) -> Result<Cursor> {
+    while let Ok(Some(layout)) = next_layout(text, at) {
+        print_stretch(out, text, layout_name(layout.kind), layout.start..layout.next.offset, at)?;
+        at = layout.next;
+    }
+    Ok(at)
+}
+
+/// All bytes, each in one stretch. The token call is made before the layout is passed: so it sees whether some stands before a `(`. Behind a refusal the
+/// layout that is still whole has its stretches, and the rest is one that was not read.
+fn print_stretches(out: &mut impl Write, text: &[u8]) -> Result<()> {
+    let mut at = Cursor::default();
+    let refusal = loop {
+        match next_token(text, at, Source::File) {
+            Ok(token) => {
+                let start = print_layout(out, text, at)?;
+                print_stretch(out, text, kind_name(token.kind), token.start..token.next.offset, start)?;
+                at = token.next;
+            }
+            Err(refusal) => break refusal,
+        }
+    };
+    at = print_layout(out, text, at)?;
+    // 8 is for a text that is too long: it may go on behind what is here
+    if at.offset < text.len() && refusal.number != NOT_VALID {
+        print_stretch(out, text, "not_read", at.offset..text.len(), at)?;
+    }
+    writeln!(out, "refused {} at {}", refusal.number, refusal.offset)
 }
 
 /// Two numbers a node, children before their parent: the index of its token in the clause; its kind (enum thrinvage_node of the header) times
@@ -166,7 +225,7 @@ fn print_whole(out: &mut impl Write, name: &str, text: &[u8]) -> Result<()> {
 }
 
 fn usage() -> Error {
-    Error::other("usage: read tokens|texts|clauses|listing|whole [FILE]\n       read field TEXT")
+    Error::other("usage: read tokens|texts|stretches|clauses|listing|whole [FILE]\n       read field TEXT")
 }
 
 fn read_bytes(file: impl Read) -> Result<Vec<u8>> {
@@ -191,6 +250,7 @@ fn run(words: &[&str]) -> Result<()> {
         ["field", text] => print_tokens(&mut out, text.as_bytes(), Source::Field),
         ["tokens", names @ ..] => print_tokens(&mut out, &read_text(names)?, Source::File),
         ["texts", names @ ..] => print_texts(&mut out, &read_text(names)?),
+        ["stretches", names @ ..] => print_stretches(&mut out, &read_text(names)?),
         ["clauses", names @ ..] => print_clauses(&mut out, &read_text(names)?),
         ["listing", names @ ..] => print_listing(&mut out, &read_text(names)?),
         ["whole", names @ ..] => print_whole(&mut out, names.first().unwrap_or(&"standard input"), &read_text(names)?),

@@ -64,11 +64,31 @@ pub enum Value {
     Float(f64),
 }
 
-/// A token: its span runs from `start` to the offset of `next`, the cursor behind it.
+/// A token: its span runs from `start` to the offset of `next`, the cursor behind it. From `layout`, where the call's cursor stood, to `start` there is
+/// layout.
 #[derive(Clone, Copy, Debug, PartialEq)]
 pub struct Token {
     pub kind: Kind,
     pub value: Value,
+    pub start: usize,
+    pub next: Cursor,
+    pub layout: usize,
+}
+
+/// What a layout text is.
+#[derive(Clone, Copy, Debug, PartialEq, Eq)]
+pub enum LayoutKind {
+    /// Blanks, tabs, newlines and returns, as many as stand together.
+    Blanks,
+    /// With its newline, or to the end of the text.
+    LineComment,
+    BracketedComment,
+}
+
+/// A layout text: its span runs from `start` to the offset of `next`, the cursor behind it.
+#[derive(Clone, Copy, Debug, PartialEq, Eq)]
+pub struct Layout {
+    pub kind: LayoutKind,
     pub start: usize,
     pub next: Cursor,
 }
@@ -188,6 +208,7 @@ struct RawToken {
     start: u64,
     value_kind: u64,
     value: u64,
+    layout: u64,
 }
 
 #[repr(C)]
@@ -197,6 +218,17 @@ struct RawText {
     part: u64,
     part_start: u64,
     part_end: u64,
+}
+
+#[repr(C)]
+#[derive(Clone, Copy, Default)]
+struct RawLayout {
+    offset: u64,
+    line: u64,
+    column: u64,
+    refused_at: u64,
+    kind: u64,
+    start: u64,
 }
 
 #[repr(C)]
@@ -244,6 +276,7 @@ unsafe extern "C" {
     fn thrinvage_next_token_text(
         text: *const u8, length: usize, offset: usize, line: usize, column: usize, scratch: *mut u8, room: usize, token: *mut RawText,
     ) -> u32;
+    fn thrinvage_next_layout(text: *const u8, length: usize, offset: usize, line: usize, column: usize, layout: *mut RawLayout) -> u32;
     fn thrinvage_read_clause(
         text: *const u8, length: usize, offset: usize, line: usize, column: usize, tree: *mut u16, room: usize, clause: *mut RawClause,
     ) -> u32;
@@ -278,7 +311,20 @@ impl RawToken {
             1 => Value::Integer(self.value),
             _ => Value::Float(f64::from_bits(self.value)),
         };
-        Token { kind: KINDS[self.kind as usize], value, start: self.start as usize, next: cursor(self.offset, self.line, self.column) }
+        let next = cursor(self.offset, self.line, self.column);
+        Token { kind: KINDS[self.kind as usize], value, start: self.start as usize, next, layout: self.layout as usize }
+    }
+}
+
+impl RawLayout {
+    fn layout(&self) -> Option<Layout> {
+        let kind = match self.kind {
+            0 => return None,
+            1 => LayoutKind::Blanks,
+            2 => LayoutKind::LineComment,
+            _ => LayoutKind::BracketedComment,
+        };
+        Some(Layout { kind, start: self.start as usize, next: cursor(self.offset, self.line, self.column) })
     }
 }
 
@@ -309,6 +355,15 @@ pub fn next_token_text(text: &[u8], at: Cursor, scratch: &mut [u8]) -> Result<(T
         let range = raw.part_start as usize..raw.part_end as usize;
         (raw.token.token(), if raw.part == 0 { Part::Source(range) } else { Part::Scratch(range) })
     })
+}
+
+/// The layout text at the cursor, one at a time: blanks, or a comment; none where a token starts. It refuses what the token call refuses there before it
+/// has come to a token. From the token call's cursor on, one layout text behind another leads to the token's `start`.
+pub fn next_layout(text: &[u8], at: Cursor) -> Result<Option<Layout>, Refusal> {
+    let mut raw = RawLayout::default();
+    // SAFETY: as above.
+    let number = unsafe { thrinvage_next_layout(text.as_ptr(), text.len(), at.offset, at.line, at.column, &mut raw) };
+    unless_refused(number, raw.refused_at, || raw.layout())
 }
 
 /// The clause behind the cursor as a tree, two numbers a node: `count` counts the nodes.
@@ -440,34 +495,21 @@ impl<'i, 'n> Unpacked<'i, 'n> {
 }
 
 /// The offset of the first byte that is no layout, at the cursor or behind it; the text's length where there is none. Layout is blanks, tabs, newlines,
-/// returns and whole comments: a bracketed comment that is not closed is none, from its slash on.
+/// returns and whole comments: a bracketed comment that is not closed is none, from its slash on, nor is a comment in which a foreign byte stands. In a text
+/// that is longer than `LONGEST_TEXT`, which every call refuses, it is the cursor's.
 pub fn layout_end(text: &[u8], at: Cursor) -> usize {
-    let mut rest = text.get(at.offset..).unwrap_or_default();
-    while let Some(behind) = behind_layout(rest) {
-        rest = behind;
+    // only the offset counts: with these a cursor is valid if its offset is
+    let mut end = Cursor { offset: at.offset, ..Cursor::default() };
+    while let Ok(Some(layout)) = next_layout(text, end) {
+        end = layout.next;
     }
-    text.len() - rest.len()
+    end.offset.min(text.len())
 }
 
 /// Whether nothing but layout stands behind the cursor. Where the clause, the line or the pack call is refused by 1 at this cursor, the text is whole
 /// exactly if this holds; else its last clause, which starts at `layout_end`, was cut off.
 pub fn only_layout_behind(text: &[u8], at: Cursor) -> bool {
     layout_end(text, at) == text.len()
-}
-
-/// Behind the one byte or the one comment of layout that the text starts with, if it does.
-fn behind_layout(text: &[u8]) -> Option<&[u8]> {
-    match text {
-        [b' ' | b'\t' | b'\n' | b'\r', behind @ ..] => Some(behind),
-        [b'%', comment @ ..] => behind_first(b"\n", comment).or(Some(&[])), // it may end with the text
-        [b'/', b'*', comment @ ..] => behind_first(b"*/", comment),
-        _ => None,
-    }
-}
-
-fn behind_first<'t>(mark: &[u8], text: &'t [u8]) -> Option<&'t [u8]> {
-    let at = text.windows(mark.len()).position(|part| part == mark)?;
-    Some(&text[at + mark.len()..])
 }
 
 /// Reads a text token by token and keeps the last one where the call put it: the fastest way through a text, since nothing is copied.

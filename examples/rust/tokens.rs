@@ -2,7 +2,7 @@
 use crate::thrinvage::{Cursor, Kind, Token, Value};
 use std::io::{Result, Write};
 
-fn kind_name(kind: Kind) -> &'static str {
+pub fn kind_name(kind: Kind) -> &'static str {
     match kind {
         Kind::Name => "name",
         Kind::Variable => "variable",
@@ -35,5 +35,6 @@ fn shown_value(value: Value) -> String {
 }
 
 pub fn print_token(out: &mut impl Write, token: Token) -> Result<()> {
-    writeln!(out, "token {} {} {} {}", kind_name(token.kind), token.start, shown_cursor(token.next), shown_value(token.value))
+    let (kind, next, value) = (kind_name(token.kind), shown_cursor(token.next), shown_value(token.value));
+    writeln!(out, "token {kind} {} {next} {value} {}", token.start, token.layout)
 }
