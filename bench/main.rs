@@ -94,6 +94,18 @@ fn beside_the_token_calls(batches: &[Batch], rounds: usize) -> Vec<Line> {
     timed.collect()
 }
 
+/// Texts of one size are enough: the cost of a byte does not grow with the text.
+#[cfg(layout)]
+fn timed_with_layout(batches: &[Batch], rounds: usize) {
+    let longest = batches.iter().filter(|batch| batch.size == model::LONGEST_TEXT);
+    let timed = longest.map(|batch| {
+        let readers = [Reader::token_call(), Reader::stretches()];
+        Line { of: batch.amount(), times: race(readers.map(|reader| reader.over(batch)), rounds) }
+    });
+    let lines: Vec<Line> = timed.collect();
+    print("The token call and the layout calls between beside the token call", TOKENS, ["token call", "with layout"], &lines);
+}
+
 /// What has no token of more than 1,024 bytes.
 #[cfg(chunks)]
 fn timed_in_chunks(corpora: &[Corpus], machine: &mut Machine, rounds: usize) {
@@ -113,6 +125,8 @@ fn run(options: &Options) {
     let (tokens, texts) = beside_the_rust(&of_tokens, options.rounds);
     print("The token call beside the Rust", TOKENS, ["token call", "Rust"], &tokens);
     print("The text call, each text copied out, beside the Rust", TOKENS, ["text call", "Rust"], &texts);
+    #[cfg(layout)]
+    timed_with_layout(&of_tokens, options.rounds);
     let of_clauses = batches(&clauses, &mut machine);
     let lines = beside_the_token_calls(&of_clauses, options.rounds);
     print("The clause call beside the token calls", TOKENS, ["token calls", "clause call"], &lines);

@@ -11,6 +11,8 @@ use std::hint::black_box;
 
 pub enum Reader {
     TokenCall,
+    #[cfg(layout)]
+    Stretches,
     TextCall { scratch: Vec<u8>, kept: Vec<u8> },
     ClauseCall { tree: Vec<u16> },
     #[cfg(chunks)]
@@ -21,6 +23,11 @@ pub enum Reader {
 impl Reader {
     pub fn token_call() -> Reader {
         Reader::TokenCall
+    }
+
+    #[cfg(layout)]
+    pub fn stretches() -> Reader {
+        Reader::Stretches
     }
 
     pub fn text_call() -> Reader {
@@ -55,6 +62,8 @@ impl Reader {
     fn count(&mut self, text: &[u8]) -> usize {
         match self {
             Reader::TokenCall => tokens(text),
+            #[cfg(layout)]
+            Reader::Stretches => stretches(text),
             Reader::TextCall { scratch, kept } => texts(text, scratch, kept),
             Reader::ClauseCall { tree } => clauses(text, tree),
             #[cfg(chunks)]
@@ -68,6 +77,20 @@ fn tokens(text: &[u8]) -> usize {
     let (mut scanner, mut count) = (Scanner::new(text, Source::File), 0);
     while scanner.advance().is_ok() {
         black_box(&scanner);
+        count += 1;
+    }
+    count
+}
+
+/// As an editor reads: the token call, and from its cursor the layout call, text by text, to where the token starts.
+#[cfg(layout)]
+fn stretches(text: &[u8]) -> usize {
+    let (mut at, mut count) = (Cursor::default(), 0);
+    while let Ok(token) = thrinvage::next_token(text, at, Source::File) {
+        while let Ok(Some(layout)) = thrinvage::next_layout(text, at) {
+            at = black_box(&layout).next;
+        }
+        at = black_box(&token).next;
         count += 1;
     }
     count

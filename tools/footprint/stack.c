@@ -31,6 +31,13 @@ static void next_token(void) {
     }
 }
 
+/* At each offset: most are in no layout, and some in the middle of it. */
+static void next_layout(void) {
+    struct thrinvage_layout l = {0};
+    for (size_t offset = 0; offset <= length; offset++)
+        thrinvage_next_layout(text, length, offset, 0, 0, &l);
+}
+
 static void next_token_text(void) {
     struct thrinvage_token_text t = {0};
     thrinvage_next_token_text(text, length, 0, 0, 0, scratch, sizeof scratch, &t);
@@ -117,6 +124,7 @@ static const struct {
     void (*call)(void);
 } CALLS[] = {{"thrinvage_next_token", next_token},
              {"thrinvage_next_token_text", next_token_text},
+             {"thrinvage_next_layout", next_layout},
              {"thrinvage_read_clause", read_clause},
              {"thrinvage_list_clause", list_clause},
              {"thrinvage_pack_clause", pack_clause},

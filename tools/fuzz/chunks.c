@@ -10,9 +10,10 @@ enum { LONGEST_TEXT = THRINVAGE_LONGEST_TEXT, LONGEST_TOKEN = THRINVAGE_LONGEST_
 enum { MODE, SLASH, OFFSET, LINE, COLUMN, LAYOUT, FROM, TO, PHASE, REFUSAL, REFUSED_AT, TAKEN, FIELDS };
 enum { OPEN, ENDED, REFUSED };
 enum { INSIDE = 2 };
-enum { TOKEN_REFUSED_AT = 3, TOKEN_FIELDS = 8 };
+enum { TOKEN_REFUSED_AT = 3, TOKEN_FIELDS = 9 };
 
 _Static_assert(sizeof(struct thrinvage_reader) == FIELDS * sizeof(uint64_t), "the fields are those of the struct");
+_Static_assert(sizeof(struct thrinvage_token) == TOKEN_FIELDS * sizeof(uint64_t), "the fields are those of the struct");
 
 /* A reader with its window. */
 struct reader {
@@ -66,7 +67,7 @@ static bool is_known(const uint64_t *fields)
     bool mode = fields[MODE] == INSIDE || (fields[MODE] < INSIDE && fields[SLASH] == 0);
     bool refused = fields[PHASE] == REFUSED && is_refusal(fields[REFUSAL]);
     bool phase = refused || (fields[PHASE] < REFUSED && fields[REFUSAL] == 0 && fields[REFUSED_AT] == 0);
-    return mode && fields[LAYOUT] <= 1 && phase;
+    return mode && phase;
 }
 
 static size_t at_hand(const uint64_t *fields)
@@ -74,12 +75,13 @@ static size_t at_hand(const uint64_t *fields)
     return fields[TO] - fields[FROM];
 }
 
-/* The bytes at hand are in the window, with room for one behind them, and the cursor is valid in what was delivered. */
+/* The bytes at hand are in the window, with room for one behind them, the cursor is valid in what was delivered, and the layout since the last token began
+ * no later. */
 static bool is_sound(const uint64_t *fields)
 {
     if (fields[FROM] > fields[TO] || fields[TO] >= WINDOW || fields[OFFSET] > LONGEST_TEXT || fields[OFFSET] + at_hand(fields) > LONGEST_TEXT)
         return false;
-    return fields[LINE] <= fields[OFFSET] && fields[COLUMN] <= fields[OFFSET];
+    return fields[LINE] <= fields[OFFSET] && fields[COLUMN] <= fields[OFFSET] && fields[LAYOUT] <= fields[OFFSET];
 }
 
 /* No more than a text has, and none behind the end. */
@@ -205,7 +207,8 @@ static void check_token(const struct reader *before, const struct left *left)
     const struct thrinvage_token *token = &left->token;
     const uint64_t *fields = left->reader.fields;
     must(token->offset == fields[OFFSET] && token->line == fields[LINE] && token->column == fields[COLUMN], "the reader is not behind its token");
-    must(fields[MODE] == 0 && fields[LAYOUT] == 0, "behind a token there is layout");
+    must(fields[MODE] == 0 && fields[LAYOUT] == fields[OFFSET], "behind a token there is layout");
+    must(token->layout == before->fields[LAYOUT], "the layout before a token began elsewhere than the reader knows");
     must(token->refused_at == 0, "what is read is refused at somewhere");
     must(token->start >= before->fields[OFFSET] && token->start < token->offset, "a token starts outside of the bytes at hand");
     must(token->offset - token->start <= LONGEST_TOKEN, "a token is longer than it may be");
@@ -216,6 +219,7 @@ static void check_token(const struct reader *before, const struct left *left)
 static void check_waiting(const struct reader *before, const struct left *left)
 {
     must(before->fields[PHASE] == OPEN, "more is asked for behind the end");
+    must(left->reader.fields[LAYOUT] == before->fields[LAYOUT], "the layout before a token began elsewhere when more is asked for");
     must(at_hand(left->reader.fields) < MOST_AT_HAND, "more is asked for with a token's bytes at hand");
     for (size_t i = 0; i < sizeof left->token; i++)
         must(((const uint8_t *)left->fields)[i] == left->fill, "the token is written, and more is asked for");
@@ -351,7 +355,7 @@ static void make_up_sound(struct random *random, struct reader *reader)
         fields[OFFSET] = LONGEST_TEXT - at_hand(fields);
     fields[LINE] = random_below(random, fields[OFFSET] + 1);
     fields[COLUMN] = random_below(random, fields[OFFSET] + 1);
-    fields[LAYOUT] = random_below(random, 2);
+    fields[LAYOUT] = random_one_in(random, 2) ? fields[OFFSET] : random_below(random, fields[OFFSET] + 1);
     fields[PHASE] = random_below(random, 2);
     if (random_one_in(random, 6)) {
         fields[PHASE] = REFUSED;
@@ -391,6 +395,7 @@ static void check_beside_whole(const struct reading *reading, const struct left 
     uint32_t number = thrinvage_next_token(text->bytes, text->length, last->offset, last->line, last->column, &due, THRINVAGE_FILE);
     if (number == THRINVAGE_READ && due.offset - due.start <= LONGEST_TOKEN) {
         must(left->number == THRINVAGE_READ && memcmp(&left->token, &due, sizeof due) == 0, "not the token of the whole");
+        must(left->token.layout == last->offset, "the layout before a token began elsewhere than where the last token ends");
         return;
     }
     must(left->number != THRINVAGE_READ, "a token that the whole has not");

@@ -7,7 +7,7 @@
 #include <stdlib.h>
 #include <string.h>
 
-enum { OFFSET, LINE, COLUMN, REFUSED_AT, KIND, COUNT = 4, START, VALUE_KIND, VALUE, PART, PART_START, PART_END };
+enum { OFFSET, LINE, COLUMN, REFUSED_AT, KIND, COUNT = 4, START, VALUE_KIND, VALUE, LAYOUT, PART, PART_START, PART_END };
 /* Of unpack_either; and where an image's fields stand. */
 enum { FORM, FORM_LINE, FORM_COUNT };
 enum { LENGTH_AT = 1, BODY_AT = 3, LINE_AT = 3, LONGEST_IMAGE = 65538 };
@@ -16,13 +16,13 @@ enum { LENGTH_AT = 1, BODY_AT = 3, LINE_AT = 3, LONGEST_IMAGE = 65538 };
 struct done {
     enum call call;
     uint8_t *text;
-    size_t length, offset, line;
+    size_t length, offset, line, column;
     uint8_t *lent;
     size_t lent_size;
     uint64_t *record;
     size_t record_size;
     uint32_t number;
-    uint8_t *nodes; /* that packing nodes is given, or the reader that is fed */
+    uint8_t *nodes; /* that packing nodes is given, the reader that is fed, or the record as it was before the layout call */
     size_t nodes_size;
 };
 
@@ -211,6 +211,37 @@ static bool gives_a_value_that_differs_now_and_then(struct done *done)
     return is_token(done) && done->record[VALUE_KIND] == 1 && turn++ % 8 == 0 && (done->record[VALUE] ^= 1, true);
 }
 
+/* The layout before a token is said to begin there, if that is elsewhere. */
+static bool begins_layout_at(struct done *done, uint64_t offset)
+{
+    return is_token(done) && done->record[LAYOUT] != offset && (done->record[LAYOUT] = offset, true);
+}
+
+static bool begins_the_layout_at_the_token(struct done *done)
+{
+    return begins_layout_at(done, done->record[START]);
+}
+
+static bool begins_the_layout_a_byte_early(struct done *done)
+{
+    return begins_layout_at(done, done->record[LAYOUT] - (done->record[LAYOUT] > 0));
+}
+
+static bool begins_the_layout_a_byte_late(struct done *done)
+{
+    return begins_layout_at(done, done->record[LAYOUT] + 1);
+}
+
+static bool begins_the_layout_with_the_text(struct done *done)
+{
+    return begins_layout_at(done, 0);
+}
+
+static bool writes_no_layout(struct done *done)
+{
+    return begins_layout_at(done, UINT64_C(0xa5a5a5a5a5a5a5a5));
+}
+
 static bool gives_part_2(struct done *done)
 {
     return done->call == TEXT && is_read(done) && (done->record[PART] = 2, true);
@@ -362,6 +393,233 @@ static bool points_10_at_the_second_token(struct done *done)
     return done->number == THRINVAGE_TOO_MANY_TOKENS && points_at(done, find_starts(done).second);
 }
 
+/* ---- in the layout call */
+
+static bool is_kind(const struct done *done, uint64_t kind)
+{
+    return is_read(done) && done->record[KIND] == kind;
+}
+
+static bool is_layout(const struct done *done)
+{
+    return is_read(done) && done->record[KIND] != THRINVAGE_NO_LAYOUT;
+}
+
+static bool starts_a_byte_late(struct done *done)
+{
+    return is_read(done) && (done->record[START] += 1, true);
+}
+
+static bool starts_the_layout_where_it_ends(struct done *done)
+{
+    return is_layout(done) && (done->record[START] = done->record[OFFSET], true);
+}
+
+static bool gives_layout_kind_4(struct done *done)
+{
+    return is_layout(done) && (done->record[KIND] = 4, true);
+}
+
+static bool gives_kind(struct done *done, uint64_t kind, uint64_t instead_of)
+{
+    return is_kind(done, instead_of) && (done->record[KIND] = kind, true);
+}
+
+static bool calls_blanks_a_comment(struct done *done)
+{
+    return gives_kind(done, THRINVAGE_LINE_COMMENT, THRINVAGE_BLANKS);
+}
+
+static bool calls_a_comment_blanks(struct done *done)
+{
+    return gives_kind(done, THRINVAGE_BLANKS, THRINVAGE_LINE_COMMENT);
+}
+
+static bool calls_a_line_comment_bracketed(struct done *done)
+{
+    return gives_kind(done, THRINVAGE_BRACKETED_COMMENT, THRINVAGE_LINE_COMMENT);
+}
+
+static bool calls_a_bracketed_comment_a_line(struct done *done)
+{
+    return gives_kind(done, THRINVAGE_LINE_COMMENT, THRINVAGE_BRACKETED_COMMENT);
+}
+
+static bool calls_none_blanks(struct done *done)
+{
+    return gives_kind(done, THRINVAGE_BLANKS, THRINVAGE_NO_LAYOUT);
+}
+
+static bool calls_some_none(struct done *done)
+{
+    return is_layout(done) && (done->record[KIND] = THRINVAGE_NO_LAYOUT, true);
+}
+
+static bool gives_a_kind_that_differs_now_and_then(struct done *done)
+{
+    static unsigned turn;
+    return is_layout(done) && turn++ % 2 == 0 && (done->record[KIND] = done->record[KIND] % 3 + 1, true);
+}
+
+/* The layout text ends there, if that is elsewhere and in the text, with line and column as they are there: nothing but the end is wrong. */
+static bool ends_layout_at(struct done *done, size_t end)
+{
+    if (end == done->record[OFFSET] || end > done->length || end < done->offset)
+        return false;
+    done->record[OFFSET] = done->offset;
+    done->record[LINE] = done->line;
+    done->record[COLUMN] = done->column;
+    for (; done->record[OFFSET] < end; done->record[OFFSET]++) {
+        bool newline = done->text[done->record[OFFSET]] == '\n';
+        done->record[LINE] += newline;
+        done->record[COLUMN] = newline ? 0 : done->record[COLUMN] + 1;
+    }
+    return true;
+}
+
+/* "None" for what is there, the cursor and all. */
+static bool sees_no_layout(struct done *done)
+{
+    return is_layout(done) && (done->record[KIND] = THRINVAGE_NO_LAYOUT, ends_layout_at(done, done->offset));
+}
+
+static bool gives_one_blank_alone(struct done *done)
+{
+    return is_kind(done, THRINVAGE_BLANKS) && ends_layout_at(done, done->offset + 1);
+}
+
+static bool ends_blanks_a_byte_late(struct done *done)
+{
+    return is_kind(done, THRINVAGE_BLANKS) && ends_layout_at(done, done->record[OFFSET] + 1);
+}
+
+/* As a reader that knows no returns. */
+static bool ends_blanks_at_a_return(struct done *done)
+{
+    size_t end = done->offset;
+    while (end < done->length && done->text[end] != '\r' && end < done->record[OFFSET])
+        end++;
+    return is_kind(done, THRINVAGE_BLANKS) && end > done->offset && ends_layout_at(done, end);
+}
+
+static bool leaves_the_newline_of_a_line_comment(struct done *done)
+{
+    return is_kind(done, THRINVAGE_LINE_COMMENT) && done->text[done->record[OFFSET] - 1] == '\n' && ends_layout_at(done, done->record[OFFSET] - 1);
+}
+
+static bool joins_a_line_comment_with_the_next_byte(struct done *done)
+{
+    return is_kind(done, THRINVAGE_LINE_COMMENT) && ends_layout_at(done, done->record[OFFSET] + 1);
+}
+
+static bool leaves_the_slash_of_a_bracketed_comment(struct done *done)
+{
+    return is_kind(done, THRINVAGE_BRACKETED_COMMENT) && ends_layout_at(done, done->record[OFFSET] - 1);
+}
+
+static bool is_mark(const struct done *done, size_t at, const char *mark)
+{
+    return at + 1 < done->length && done->text[at] == mark[0] && done->text[at + 1] == mark[1];
+}
+
+/* As the desk's editor did: where a comment has another opening mark in it, it goes on to the next closing mark. */
+static bool nests_comments(struct done *done)
+{
+    if (!is_kind(done, THRINVAGE_BRACKETED_COMMENT))
+        return false;
+    size_t end = done->record[OFFSET], opened = done->offset + 2;
+    while (opened < end && !is_mark(done, opened, "/*"))
+        opened++;
+    size_t closed = end;
+    while (closed < done->length && !is_mark(done, closed, "*/"))
+        closed++;
+    return opened < end && ends_layout_at(done, closed + 2);
+}
+
+static bool says(struct done *done, uint32_t number, uint32_t instead_of)
+{
+    return done->number == instead_of && (done->number = number, true);
+}
+
+static bool says_1_for_2(struct done *done)
+{
+    return says(done, THRINVAGE_END_OF_TEXT, THRINVAGE_UNCLOSED_COMMENT);
+}
+
+static bool says_2_for_1(struct done *done)
+{
+    return says(done, THRINVAGE_UNCLOSED_COMMENT, THRINVAGE_END_OF_TEXT);
+}
+
+static bool says_3_for_5(struct done *done)
+{
+    return says(done, THRINVAGE_NO_TOKEN, THRINVAGE_FOREIGN_BYTE);
+}
+
+static bool points_2_a_byte_late(struct done *done)
+{
+    return done->number == THRINVAGE_UNCLOSED_COMMENT && (done->record[REFUSED_AT] += 1, true);
+}
+
+static bool points_5_at_the_comment(struct done *done)
+{
+    return done->number == THRINVAGE_FOREIGN_BYTE && done->record[REFUSED_AT] != done->offset && (done->record[REFUSED_AT] = done->offset, true);
+}
+
+/* Nothing is there, it says, where the text has ended, or where a comment is open or has a foreign byte. */
+static bool sees_nothing_where_it_refuses(struct done *done)
+{
+    if (is_read(done) || done->number == THRINVAGE_NOT_VALID)
+        return false;
+    done->number = THRINVAGE_READ;
+    done->record[REFUSED_AT] = 0;
+    done->record[KIND] = THRINVAGE_NO_LAYOUT;
+    done->record[START] = done->offset;
+    done->record[OFFSET] = done->length;
+    return ends_layout_at(done, done->offset), true;
+}
+
+/* As if nothing else had been written. */
+static bool refuses_at_the_cursor(struct done *done, uint32_t number)
+{
+    memcpy(done->record, done->nodes, done->nodes_size);
+    done->record[REFUSED_AT] = done->offset;
+    done->number = number;
+    return true;
+}
+
+/* By the token call alone it is refused. */
+static bool refuses_a_back_quote(struct done *done)
+{
+    return is_kind(done, THRINVAGE_NO_LAYOUT) && done->text[done->offset] == '`' && refuses_at_the_cursor(done, THRINVAGE_NO_TOKEN);
+}
+
+static bool refuses_a_layout_text(struct done *done)
+{
+    return is_layout(done) && refuses_at_the_cursor(done, THRINVAGE_FOREIGN_BYTE);
+}
+
+static bool refuses_where_there_is_none(struct done *done)
+{
+    return is_kind(done, THRINVAGE_NO_LAYOUT) && refuses_at_the_cursor(done, THRINVAGE_END_OF_TEXT);
+}
+
+/* What the token call says of the layout that it passes, and where it ends. */
+static bool starts_a_token_in_the_layout(struct done *done)
+{
+    return is_token(done) && done->record[START] > done->offset && (done->record[START] -= 1, true);
+}
+
+static bool starts_in_the_token(struct done *done)
+{
+    return is_token(done) && done->record[START] + 1 < done->record[OFFSET] && (done->record[START] += 1, true);
+}
+
+static bool points_into_the_token(struct done *done)
+{
+    return (done->number == THRINVAGE_BAD_QUOTED || done->number == THRINVAGE_OUT_OF_LIMIT) && (done->record[REFUSED_AT] += 1, true);
+}
+
 /* ---- in the calls for packs */
 
 static bool is_refused(const struct done *done)
@@ -474,11 +732,6 @@ static bool reads_what_is_refused(struct done *done)
 static bool refuses_by_15(struct done *done)
 {
     return is_refused(done) && (done->number = 15, true);
-}
-
-static bool says(struct done *done, uint32_t number, uint32_t instead_of)
-{
-    return done->number == instead_of && (done->number = number, true);
 }
 
 static bool says_9_for_14(struct done *done)
@@ -763,7 +1016,7 @@ static bool does_not_look_at_the_version(struct done *done)
 
 /* ---- in the reader that is fed chunks */
 
-enum { READER_MODE, READER_SLASH, READER_LINE = 3, READER_COLUMN, READER_LAYOUT, READER_FROM, READER_PHASE = 8, READER_REFUSAL, READER_REFUSED_AT, READER_TAKEN };
+enum { READER_MODE, READER_SLASH, READER_OFFSET, READER_LINE, READER_COLUMN, READER_LAYOUT, READER_FROM, READER_PHASE = 8, READER_REFUSAL, READER_REFUSED_AT, READER_TAKEN };
 enum { REFUSED_READER = 2, INSIDE_COMMENT = 2 };
 
 static uint64_t *reader_of(const struct done *done)
@@ -828,12 +1081,24 @@ static bool loses_a_byte_at_hand(struct done *done)
 
 static bool keeps_the_layout_over_a_token(struct done *done)
 {
-    return is_read(done) && (reader_of(done)[READER_LAYOUT] = 1, true);
+    return is_read(done) && (reader_of(done)[READER_LAYOUT] = done->record[LAYOUT], true);
 }
 
 static bool forgets_the_layout(struct done *done)
 {
-    return waits(done) && reader_of(done)[READER_LAYOUT] == 1 && (reader_of(done)[READER_LAYOUT] = 0, true);
+    return waits(done) && reader_of(done)[READER_LAYOUT] < reader_of(done)[READER_OFFSET] && (reader_of(done)[READER_LAYOUT] = reader_of(done)[READER_OFFSET], true);
+}
+
+/* As it was, when 1 said that layout was passed. */
+static bool keeps_that_layout_was_passed(struct done *done)
+{
+    return waits(done) && reader_of(done)[READER_LAYOUT] > 1 && reader_of(done)[READER_LAYOUT] < reader_of(done)[READER_OFFSET] && (reader_of(done)[READER_LAYOUT] = 1, true);
+}
+
+/* The bytes at hand may go back to before the layout that was passed. */
+static bool begins_the_layout_at_hand(struct done *done)
+{
+    return begins_layout_at(done, done->offset);
 }
 
 static bool forgets_a_line_comment(struct done *done)
@@ -930,6 +1195,7 @@ enum { CLAUSE_CALLS = CALLS + 1 };
 #define FAULT(name) {#name, name, CALLS}
 #define FAULT_AT_ONCE(name) {#name "_in_all_clause_calls", name, (enum call)CLAUSE_CALLS}
 #define FAULT_IN(call, name) {#name "_in_" #call, name, call}
+#define FAULT_IN_TOKENS(name) FAULT_IN(TOKEN, name), FAULT_IN(FIELD, name), FAULT_IN(TEXT, name)
 #define FAULT_IN_PACKING(name) FAULT_IN(PACK, name), FAULT_IN(PACK_2, name)
 #define FAULT_IN_NODES(name) FAULT_IN(NODES, name), FAULT_IN(NODES_2, name)
 #define FAULT_IN_UNPACKING(name) FAULT_IN(UNPACK, name), FAULT_IN(EITHER, name)
@@ -974,6 +1240,11 @@ static const struct fault {
     FAULT(gives_a_value_to_no_number),
     FAULT(gives_the_magnitude_behind_the_largest),
     FAULT(gives_a_value_that_differs_now_and_then),
+    FAULT_IN_TOKENS(begins_the_layout_at_the_token),
+    FAULT_IN_TOKENS(begins_the_layout_a_byte_early),
+    FAULT_IN_TOKENS(begins_the_layout_a_byte_late),
+    FAULT_IN_TOKENS(begins_the_layout_with_the_text),
+    FAULT_IN_TOKENS(writes_no_layout),
     FAULT(gives_part_2),
     FAULT(shows_a_byte_more),
     FAULT(writes_the_scratch_for_a_part_of_the_text),
@@ -991,6 +1262,57 @@ static const struct fault {
     FAULT_IN(TOKEN, reads_as_the_other_source),
     FAULT_IN(FIELD, reads_as_the_other_source),
     FAULT_IN(FIELD, calls_a_name_a_variable),
+    /* the layout call */
+    FAULT_IN(LAYOUT_TEXT, reads_past_the_text),
+    FAULT_IN(LAYOUT_TEXT, reads_before_the_text),
+    FAULT_IN(LAYOUT_TEXT, changes_the_text),
+    FAULT_IN(LAYOUT_TEXT, is_told_of_a_longer_text),
+    FAULT_IN(LAYOUT_TEXT, writes_past_the_record),
+    FAULT_IN(LAYOUT_TEXT, writes_before_the_record),
+    FAULT_IN(LAYOUT_TEXT, moves_the_cursor_on_a_refusal),
+    FAULT_IN(LAYOUT_TEXT, writes_the_last_field_on_a_refusal),
+    FAULT_IN(LAYOUT_TEXT, refuses_behind_the_text),
+    FAULT_IN(LAYOUT_TEXT, refuses_by_13),
+    FAULT_IN(LAYOUT_TEXT, refuses_a_valid_cursor),
+    FAULT_IN(LAYOUT_TEXT, takes_a_cursor_that_is_not_valid),
+    FAULT_IN(LAYOUT_TEXT, is_refused_at_something_and_read),
+    FAULT_IN(LAYOUT_TEXT, moves_no_cursor),
+    FAULT_IN(LAYOUT_TEXT, moves_the_cursor_behind_the_text),
+    FAULT_IN(LAYOUT_TEXT, counts_a_line_more),
+    FAULT_IN(LAYOUT_TEXT, counts_a_column_more),
+    FAULT_IN(LAYOUT_TEXT, starts_a_byte_late),
+    FAULT_IN(LAYOUT_TEXT, starts_the_layout_where_it_ends),
+    FAULT_IN(LAYOUT_TEXT, gives_layout_kind_4),
+    FAULT_IN(LAYOUT_TEXT, calls_blanks_a_comment),
+    FAULT_IN(LAYOUT_TEXT, calls_a_comment_blanks),
+    FAULT_IN(LAYOUT_TEXT, calls_a_line_comment_bracketed),
+    FAULT_IN(LAYOUT_TEXT, calls_a_bracketed_comment_a_line),
+    FAULT_IN(LAYOUT_TEXT, calls_none_blanks),
+    FAULT_IN(LAYOUT_TEXT, calls_some_none),
+    FAULT_IN(LAYOUT_TEXT, gives_a_kind_that_differs_now_and_then),
+    FAULT_IN(LAYOUT_TEXT, sees_no_layout),
+    FAULT_IN(LAYOUT_TEXT, gives_one_blank_alone),
+    FAULT_IN(LAYOUT_TEXT, ends_blanks_a_byte_late),
+    FAULT_IN(LAYOUT_TEXT, ends_blanks_at_a_return),
+    FAULT_IN(LAYOUT_TEXT, leaves_the_newline_of_a_line_comment),
+    FAULT_IN(LAYOUT_TEXT, joins_a_line_comment_with_the_next_byte),
+    FAULT_IN(LAYOUT_TEXT, leaves_the_slash_of_a_bracketed_comment),
+    FAULT_IN(LAYOUT_TEXT, nests_comments),
+    FAULT_IN(LAYOUT_TEXT, says_1_for_2),
+    FAULT_IN(LAYOUT_TEXT, says_2_for_1),
+    FAULT_IN(LAYOUT_TEXT, says_3_for_5),
+    FAULT_IN(LAYOUT_TEXT, points_2_a_byte_late),
+    FAULT_IN(LAYOUT_TEXT, points_5_at_the_comment),
+    FAULT_IN(LAYOUT_TEXT, sees_nothing_where_it_refuses),
+    FAULT_IN(LAYOUT_TEXT, refuses_a_back_quote),
+    FAULT_IN(LAYOUT_TEXT, refuses_a_layout_text),
+    FAULT_IN(LAYOUT_TEXT, refuses_where_there_is_none),
+    FAULT_IN(TOKEN, starts_a_token_in_the_layout),
+    FAULT_IN(TOKEN, starts_in_the_token),
+    FAULT_IN(TOKEN, says_1_for_2),
+    FAULT_IN(TOKEN, points_2_a_byte_late),
+    FAULT_IN(TOKEN, points_5_at_the_comment),
+    FAULT_IN(TOKEN, points_into_the_token),
     /* refusals 9, 10 and 11 of the clause calls */
     FAULT_IN_CLAUSES(points_11_at_the_first_token),
     FAULT_IN_CLAUSES(points_11_a_token_early),
@@ -1139,6 +1461,13 @@ static const struct fault {
     FAULT_IN(FEED, loses_a_byte_at_hand),
     FAULT_IN(FEED, keeps_the_layout_over_a_token),
     FAULT_IN(FEED, forgets_the_layout),
+    FAULT_IN(FEED, keeps_that_layout_was_passed),
+    FAULT_IN(FEED, begins_the_layout_at_the_token),
+    FAULT_IN(FEED, begins_the_layout_at_hand),
+    FAULT_IN(FEED, begins_the_layout_a_byte_early),
+    FAULT_IN(FEED, begins_the_layout_a_byte_late),
+    FAULT_IN(FEED, begins_the_layout_with_the_text),
+    FAULT_IN(FEED, writes_no_layout),
     FAULT_IN(FEED, forgets_a_line_comment),
     FAULT_IN(FEED, forgets_the_comment),
     FAULT_IN(FEED, forgets_where_a_comment_began),
@@ -1238,9 +1567,10 @@ static size_t told_room(enum call call, size_t room)
 #define PLACE const uint8_t *text, size_t length, size_t offset, size_t line, size_t column
 #define NODES_GIVEN const uint8_t *bytes, size_t length, const uint32_t *nodes, size_t numbers, size_t count
 #define DONE(call, lent, lent_size, record, number) \
-    with_fault((struct done){call, (uint8_t *)text, length, offset, line, (uint8_t *)(lent), lent_size, (uint64_t *)(record), sizeof *(record), number, NULL, 0})
+    with_fault((struct done){call, (uint8_t *)text, length, offset, line, column, (uint8_t *)(lent), lent_size, (uint64_t *)(record), sizeof *(record), number, NULL, 0})
 
 uint32_t __real_thrinvage_next_token_text(PLACE, uint8_t *scratch, size_t room, struct thrinvage_token_text *token);
+uint32_t __real_thrinvage_next_layout(PLACE, struct thrinvage_layout *layout);
 uint32_t __real_thrinvage_read_clause(PLACE, uint16_t *tree, size_t room, struct thrinvage_clause *clause);
 uint32_t __real_thrinvage_list_clause(PLACE, uint8_t *out, size_t room, struct thrinvage_clause *clause);
 uint32_t __real_thrinvage_pack_clause(PLACE, uint8_t *out, size_t room, struct thrinvage_clause *clause);
@@ -1260,6 +1590,13 @@ uint32_t __wrap_thrinvage_next_token(PLACE, struct thrinvage_token *token, uint3
 uint32_t __wrap_thrinvage_next_token_text(PLACE, uint8_t *scratch, size_t room, struct thrinvage_token_text *token)
 {
     return DONE(TEXT, scratch, room, token, __real_thrinvage_next_token_text(text, told(TEXT, length), offset, line, column, scratch, told_room(TEXT, room), token));
+}
+
+uint32_t __wrap_thrinvage_next_layout(PLACE, struct thrinvage_layout *layout)
+{
+    struct thrinvage_layout before = *layout;
+    uint32_t number = __real_thrinvage_next_layout(text, told(LAYOUT_TEXT, length), offset, line, column, layout);
+    return with_fault((struct done){LAYOUT_TEXT, (uint8_t *)text, length, offset, line, column, NULL, 0, (uint64_t *)layout, sizeof *layout, number, (uint8_t *)&before, sizeof before});
 }
 
 uint32_t __wrap_thrinvage_read_clause(PLACE, uint16_t *tree, size_t room, struct thrinvage_clause *clause)
@@ -1284,7 +1621,7 @@ uint32_t __wrap_thrinvage_pack_clause_form_2(PLACE, uint8_t *out, size_t room, s
 }
 
 #define IMAGE_DONE(call, image, length, lent, room, record, number) \
-    with_fault((struct done){call, (uint8_t *)(image), length, 0, 0, (uint8_t *)(lent), (room) * sizeof *(lent), (uint64_t *)(record), sizeof *(record), number, NULL, 0})
+    with_fault((struct done){call, (uint8_t *)(image), length, 0, 0, 0, (uint8_t *)(lent), (room) * sizeof *(lent), (uint64_t *)(record), sizeof *(record), number, NULL, 0})
 
 uint32_t __wrap_thrinvage_unpack(const uint8_t *image, size_t length, uint32_t *nodes, size_t room, uint64_t *count)
 {
@@ -1312,7 +1649,7 @@ static size_t told_numbers(enum call call, size_t numbers)
 }
 
 #define NODES_DONE(call, number) \
-    with_fault((struct done){call, (uint8_t *)bytes, length, 0, 0, out, room, packed, sizeof *packed, number, (uint8_t *)nodes, numbers * sizeof *nodes})
+    with_fault((struct done){call, (uint8_t *)bytes, length, 0, 0, 0, out, room, packed, sizeof *packed, number, (uint8_t *)nodes, numbers * sizeof *nodes})
 
 uint32_t __wrap_thrinvage_pack_nodes(NODES_GIVEN, uint8_t *out, size_t room, uint64_t *packed)
 {
@@ -1331,12 +1668,13 @@ void __real_thrinvage_start(struct thrinvage_reader *reader);
 
 uint32_t __wrap_thrinvage_feed(struct thrinvage_reader *reader, uint8_t *window, const uint8_t *chunk, size_t length, struct thrinvage_token *token)
 {
-    size_t offset = reader->offset, line = reader->line;
+    size_t offset = reader->offset, line = reader->line, column = reader->column;
     uint32_t number = __real_thrinvage_feed(reader, window, chunk, told(FEED, length), token);
-    return with_fault((struct done){FEED, (uint8_t *)chunk, length, offset, line, window, THRINVAGE_WINDOW, (uint64_t *)token, sizeof *token, number, (uint8_t *)reader, sizeof *reader});
+    return with_fault((struct done){FEED, (uint8_t *)chunk, length, offset, line, column, window, THRINVAGE_WINDOW, (uint64_t *)token, sizeof *token, number, (uint8_t *)reader,
+                                    sizeof *reader});
 }
 
-#define READER_DONE(call, offset) with_fault((struct done){call, NULL, 0, offset, 0, NULL, 0, NULL, 0, THRINVAGE_READ, (uint8_t *)reader, sizeof *reader})
+#define READER_DONE(call, offset) with_fault((struct done){call, NULL, 0, offset, 0, 0, NULL, 0, NULL, 0, THRINVAGE_READ, (uint8_t *)reader, sizeof *reader})
 
 void __wrap_thrinvage_finish(struct thrinvage_reader *reader)
 {

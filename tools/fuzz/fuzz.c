@@ -2,6 +2,7 @@
  * usage: fuzz [--seconds N] [--seed N] [--round N] [--place N] FILE..    (FILEs of Prolog, parts of which are among the texts) */
 #include "chunks.h"
 #include "images.h"
+#include "layouts.h"
 #include "no_reading.h"
 #include "packs.h"
 #include "report.h"
@@ -21,8 +22,9 @@ static const uint64_t LARGEST_MAGNITUDE = UINT64_C(1) << 63;
 union record {
     struct thrinvage_token token;
     struct thrinvage_token_text text;
+    struct thrinvage_layout layout;
     struct thrinvage_clause clause;
-    uint64_t fields[11];
+    uint64_t fields[12];
 };
 enum { OFFSET_FIELD, LINE_FIELD, COLUMN_FIELD, REFUSED_AT_FIELD };
 
@@ -44,6 +46,8 @@ static size_t record_size(enum call call)
 {
     if (call == TEXT)
         return sizeof(struct thrinvage_token_text);
+    if (call == LAYOUT_TEXT)
+        return sizeof(struct thrinvage_layout);
     return call >= READ ? sizeof(struct thrinvage_clause) : sizeof(struct thrinvage_token);
 }
 
@@ -65,6 +69,7 @@ static uint32_t put(const struct running *asked, const struct slice *text, void 
     case TOKEN: return thrinvage_next_token(text->at, text->size, offset, line, column, record, some_file(asked->at));
     case FIELD: return thrinvage_next_token(text->at, text->size, offset, line, column, record, THRINVAGE_FIELD);
     case TEXT: return thrinvage_next_token_text(text->at, text->size, offset, line, column, lent, asked->room, record);
+    case LAYOUT_TEXT: return thrinvage_next_layout(text->at, text->size, offset, line, column, record);
     case READ: return thrinvage_read_clause(text->at, text->size, offset, line, column, lent, asked->room, record);
     case LIST: return thrinvage_list_clause(text->at, text->size, offset, line, column, lent, asked->room, record);
     case PACK: return thrinvage_pack_clause(text->at, text->size, offset, line, column, lent, asked->room, record);
@@ -155,6 +160,16 @@ static bool is_first_token(struct cursor at, size_t start)
     return thrinvage_next_token(now_text.bytes, now_text.length, at.offset, at.line, at.column, &token, THRINVAGE_FILE) == THRINVAGE_READ && token.start == start;
 }
 
+/* Of the layout call the whole answer is due. */
+static void check_layout_refused(const struct running *asked, const struct given *given)
+{
+    if (!is_valid(asked->at))
+        return;
+    struct plain_layout due = plain_layout(&now_text, asked->at.offset);
+    must(given->number == due.number, "the layout call refuses what is no fault of layout, or by another number");
+    must(given->record.layout.refused_at == due.refused_at, "the layout call refuses elsewhere");
+}
+
 static void check_refused(const struct running *asked, const struct given *given)
 {
     const uint64_t *fields = given->record.fields;
@@ -170,11 +185,14 @@ static void check_refused(const struct running *asked, const struct given *given
     for (size_t i = 0; i < record_size(asked->call) / sizeof *fields; i++)
         must(i == REFUSED_AT_FIELD || fields[i] == filled, "a refusal writes another field of the record");
     must(is_untouched(given, 0, lent_size(asked)), "a refusal writes to the lent slice");
+    if (asked->call == LAYOUT_TEXT)
+        check_layout_refused(asked, given);
 }
 
 static void check_token(const struct running *asked, const struct thrinvage_token *token)
 {
     must(token->start >= asked->at.offset && token->start < token->offset, "a token starts outside of what was read");
+    must(token->layout == asked->at.offset, "the layout before a token began elsewhere than at the cursor");
     must(token->kind <= THRINVAGE_END, "no such kind");
     must(token->value_kind <= THRINVAGE_FLOAT, "no such kind of value");
     must((token->value_kind != THRINVAGE_NOTHING) == (token->kind == THRINVAGE_NUMBER), "numbers have values, and nothing else has");
@@ -194,6 +212,16 @@ static void check_text(const struct running *asked, const struct given *given)
         must(text->part_start == 0 && text->part_end <= asked->room, "a part is not in the scratch");
         must(is_untouched(given, text->part_end, asked->room), "the scratch is written behind the part");
     }
+}
+
+static void check_layout(const struct running *asked, const struct given *given)
+{
+    const struct thrinvage_layout *layout = &given->record.layout;
+    struct plain_layout due = plain_layout(&now_text, asked->at.offset);
+    must(due.number == THRINVAGE_READ, "the layout call reads what is to be refused");
+    must(layout->kind == due.kind, "a layout text is of another kind, or there is none");
+    must(layout->start == asked->at.offset, "a layout text starts elsewhere than at the cursor");
+    must(layout->offset == due.end, "a layout text ends elsewhere");
 }
 
 /* Each node takes its children from the stack of those before; the root is left. */
@@ -249,17 +277,25 @@ static void check_pack(const struct running *asked, const struct given *given)
     must(plain_unpack(&now_packed, (struct versions){version, version}, &form, &nodes) == THRINVAGE_READ, "the image is no pack of this form");
 }
 
+/* Where no layout text is, the cursor is the caller's; each other reading moves it. */
+static bool must_move(const struct running *asked, const struct given *given)
+{
+    return asked->call != LAYOUT_TEXT || given->record.layout.kind != THRINVAGE_NO_LAYOUT;
+}
+
 static void check_read(const struct running *asked, const struct given *given)
 {
     struct cursor next = next_of(given);
     must(is_valid(asked->at), "a text or cursor that is not valid is read");
     must(given->record.fields[REFUSED_AT_FIELD] == 0, "what is read is refused at somewhere");
-    must(next.offset > asked->at.offset && next.offset <= now_text.length, "the cursor stands still, or behind the text");
+    must(next.offset >= asked->at.offset + must_move(asked, given) && next.offset <= now_text.length, "the cursor stands still, or behind the text");
     must(is_same_cursor(next, moved(asked->at, next.offset)), "line or column do not follow the text");
     if (asked->call <= TEXT)
         check_token(asked, &given->record.token);
     if (asked->call == TEXT)
         check_text(asked, given);
+    else if (asked->call == LAYOUT_TEXT)
+        check_layout(asked, given);
     else if (asked->call == READ)
         check_tree(asked, given);
     else if (asked->call == LIST)
@@ -345,6 +381,40 @@ static void check_text_beside_token(const struct given *token, const struct give
         return;
     }
     check_alike(token, text);
+}
+
+/* The refusals of a token that point at its start. */
+static bool is_at_token(uint32_t number)
+{
+    return number == THRINVAGE_NO_TOKEN || number == THRINVAGE_BAD_QUOTED || number == THRINVAGE_SET_ASIDE || number == THRINVAGE_OUT_OF_LIMIT;
+}
+
+/* Behind the last layout text stands the token that the token call gives or refuses; or the layout is refused, as it is by the token call. */
+static void check_layout_beside_token(struct cursor at, const struct given *layout, const struct given *token)
+{
+    size_t refused_at = token->record.fields[REFUSED_AT_FIELD];
+    if (layout->number != THRINVAGE_READ) {
+        must(token->number == layout->number, "the layout call and the token call do not refuse alike");
+        must(refused_at == layout->record.layout.refused_at, "the layout call and the token call refuse at different places");
+        return;
+    }
+    bool is_read = token->number == THRINVAGE_READ;
+    must(!is_read || token->record.token.start == at.offset, "a token starts elsewhere than where the layout before it ends");
+    must(is_read || refused_at >= at.offset, "a token is refused before it starts");
+    must(!is_at_token(token->number) || refused_at == at.offset, "refusal 3, 4, 6 or 7 points elsewhere than at the token");
+    must(token->number != THRINVAGE_UNCLOSED_COMMENT, "the token call has a comment where the layout call has none");
+}
+
+/* One layout text behind another, from the token call's cursor on. */
+static void call_layouts(struct random *random, const struct copies *copies, struct cursor at, const struct given *token)
+{
+    static struct given given;
+    do {
+        call_twice(random, copies, LAYOUT_TEXT, at, 0, &given);
+        if (given.number == THRINVAGE_READ)
+            at = next_of(&given);
+    } while (given.number == THRINVAGE_READ && given.record.layout.kind != THRINVAGE_NO_LAYOUT);
+    check_layout_beside_token(at, &given, token);
 }
 
 /* Whether digits, and nothing else, stand from here to the end of the text. */
@@ -484,6 +554,7 @@ static void call_pack(struct random *random, const struct copies *copies, enum c
 static void call_the_others(struct random *random, const struct copies *copies, struct cursor at, const struct given *token)
 {
     static struct given given, other;
+    call_layouts(random, copies, at, token); /* first: what follows goes through layout by itself */
     call_twice(random, copies, FIELD, at, 0, &given);
     check_field_beside_file(at, token, &given);
     call_twice(random, copies, TEXT, at, some_room(random), &given);

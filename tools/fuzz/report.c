@@ -5,9 +5,9 @@
 
 enum { MOST_SHOWN = 300 };
 
-static const char *const call_names[CALLS] = {"next_token",         "next_token, field", "next_token_text",   "read_clause", "list_clause", "pack_clause",
-                                              "pack_clause_form_2", "pack_nodes",        "pack_nodes_form_2", "unpack",      "unpack_either",
-                                              "move_up",            "move_down",         "feed",              "finish",      "start"};
+static const char *const call_names[CALLS] = {"next_token",         "next_token, field", "next_token_text",   "next_layout", "read_clause",   "list_clause", "pack_clause",
+                                              "pack_clause_form_2", "pack_nodes",        "pack_nodes_form_2", "unpack",      "unpack_either", "move_up",     "move_down",
+                                              "feed",               "finish",            "start"};
 
 static const char *const kind_names[] = {"name", "variable", "string", "number", "(", "( right behind", ")", "[", "]", "{", "}", "|", "||", "comma", "end mark"};
 enum { KINDS = sizeof kind_names / sizeof *kind_names };

@@ -7,7 +7,7 @@
 #include <stdint.h>
 
 /* Up to PACK_2 they read a text from a cursor on; from UNPACK to DOWN they take an image; the last three are of the reader that is fed chunks. */
-enum call { TOKEN, FIELD, TEXT, READ, LIST, PACK, PACK_2, NODES, NODES_2, UNPACK, EITHER, UP, DOWN, FEED, FINISH, START_READER, CALLS };
+enum call { TOKEN, FIELD, TEXT, LAYOUT_TEXT, READ, LIST, PACK, PACK_2, NODES, NODES_2, UNPACK, EITHER, UP, DOWN, FEED, FINISH, START_READER, CALLS };
 /* The last is no refusal: more is asked for. */
 enum { REFUSALS = 19, ASKS_FOR_MORE = REFUSALS, ANSWERS };
 
