@@ -1,8 +1,8 @@
 //! The archive's answers: the C interface, called in this process by the wrapper of examples/rust.
 use crate::kind::Kind;
-use crate::model::{Cursor, Reading, Value};
-use crate::protocol::{Answer, Case, FILL, KINDS};
-use crate::thrinvage::{self as archive, Part, Refusal, Source, Token};
+use crate::model::{Cursor, LayoutKind, LayoutText, Reading, Value};
+use crate::protocol::{Answer, Case, FILL, KINDS, LAYOUT_KINDS, answers_on};
+use crate::thrinvage::{self as archive, Layout, Part, Refusal, Source, Token};
 
 fn there(at: Cursor) -> archive::Cursor {
     archive::Cursor { offset: at.offset, line: at.line, column: at.column }
@@ -31,20 +31,18 @@ fn token(cursor: Cursor, read: Result<Token, Refusal>) -> Answer {
         archive::Value::Integer(n) => Value::Integer(n),
         archive::Value::Float(f) => Value::Float(f.to_bits()),
     };
-    Answer::Token { kind: kind(token.kind), start: token.start, next: here(token.next), value }
+    Answer::Token { kind: kind(token.kind), start: token.start, next: here(token.next), value, layout: token.layout }
 }
 
-/// Token calls up to the first refusal; no text has more tokens than bytes, so a cursor that stands still ends the case too.
-fn tokens(case: &Case) -> Vec<Answer> {
-    let (mut cursor, mut answers) = (case.cursor, Vec::new());
-    for _ in 0..=case.text.len() {
-        answers.push(token(cursor, archive::next_token(&case.text, there(cursor), Source::File)));
-        match answers.last() {
-            Some(Answer::Token { next, .. }) => cursor = *next,
-            _ => break,
+/// Where no layout text is, the wrapper hands nothing out.
+fn layout(cursor: Cursor, read: Result<Option<Layout>, Refusal>) -> Answer {
+    match read {
+        Err(refusal) => refused(refusal, cursor, Vec::new()),
+        Ok(None) => Answer::Layout(LayoutText { kind: LayoutKind::Absent, start: cursor.offset, next: cursor }),
+        Ok(Some(Layout { kind, start, next })) => {
+            Answer::Layout(LayoutText { kind: LAYOUT_KINDS[kind as usize + 1].0, start, next: here(next) })
         }
     }
-    answers
 }
 
 fn text(case: &Case) -> Answer {
@@ -57,18 +55,25 @@ fn text(case: &Case) -> Answer {
                 Part::Scratch(range) => scratch.get(range),
             };
             let shown = shown.unwrap_or_default().to_vec();
-            Answer::Text { kind: kind(token.kind), start: token.start, next: here(token.next), shown, scratch }
+            Answer::Text {
+                kind: kind(token.kind),
+                start: token.start,
+                next: here(token.next),
+                shown,
+                layout: token.layout,
+                scratch,
+            }
         }
     }
 }
 
 /// The answers to a case. The model's readings, which other sources start from, are not looked at.
 pub fn answers(case: &Case, _: &[Reading]) -> Vec<Answer> {
-    let Case { call, cursor, text: bytes, .. } = case;
-    match call {
-        b'n' => vec![token(*cursor, archive::next_token(bytes, there(*cursor), Source::Field))],
-        b't' => vec![token(*cursor, archive::next_token(bytes, there(*cursor), Source::File))],
+    let bytes = &case.text;
+    match case.call {
         b'x' => vec![text(case)],
-        _ => tokens(case),
+        b'b' => answers_on(case, |at| layout(at, archive::next_layout(bytes, there(at)))),
+        b'n' => answers_on(case, |at| token(at, archive::next_token(bytes, there(at), Source::Field))),
+        _ => answers_on(case, |at| token(at, archive::next_token(bytes, there(at), Source::File))),
     }
 }

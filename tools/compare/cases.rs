@@ -65,8 +65,8 @@ fn texts_up_to(alphabet: usize, length: u32) -> usize {
     (0..=length).map(|n| alphabet.pow(n)).sum()
 }
 
-/// Every short text gets the token call as a file and as a field, and the text call.
-const CALLS_A_TEXT: usize = 3;
+/// Every short text gets the token call as a file and as a field, the layout call and the text call.
+const CALLS_A_TEXT: usize = 4;
 
 /// Hands out every short text of every family, as long as the budget of cases lasts for whole lengths.
 pub fn short_texts(budget: usize, mut take: impl FnMut(&[u8])) -> Vec<String> {
@@ -96,7 +96,7 @@ pub fn short_texts(budget: usize, mut take: impl FnMut(&[u8])) -> Vec<String> {
 }
 
 pub fn short_cases(text: &[u8]) -> [Case; CALLS_A_TEXT] {
-    [b'T', b'n', b'x'].map(|call| Case::new(call, Cursor::START, if call == b'x' { 4 } else { 0 }, text))
+    [b'T', b'n', b'b', b'x'].map(|call| Case::new(call, Cursor::START, if call == b'x' { 4 } else { 0 }, text))
 }
 
 /// Beginnings behind which every byte is put: wherever a rule looks at the next byte, and where it does not.
@@ -384,7 +384,8 @@ impl Maker {
         text
     }
 
-    /// The cases of one text: the token call through the text, and the others where its tokens stand and elsewhere.
+    /// The cases of one text: the token call through the text, and the others where its tokens stand and elsewhere; the layout call where more than a
+    /// byte of layout stands before a token, and behind the last.
     pub fn cases_of(&mut self, text: &[u8], take: &mut impl FnMut(Case)) {
         let through = Case::new(b'T', Cursor::START, 0, text);
         let read = readings(&through);
@@ -392,11 +393,15 @@ impl Maker {
         let mut cursor = Cursor::START;
         for reading in &read {
             let Ok(token) = &reading.answer else {
+                take(Case::new(b'b', cursor, 0, text));
                 if self.random.chance(15) {
                     take(Case::new(b'x', cursor, self.random.below(9), text));
                 }
                 break;
             };
+            if token.start > token.layout + 1 {
+                take(Case::new(b'b', cursor, 0, text));
+            }
             let textual = matches!(token.kind, Kind::Name | Kind::Variable | Kind::String);
             if self.random.chance(if token.quoted {
                 70
@@ -429,6 +434,7 @@ impl Maker {
                 _ => Cursor::START.moved_to(text, at),
             };
             take(Case::new(call, cursor, if call == b'x' { self.random.below(20) } else { 0 }, text));
+            take(Case::new(b'b', cursor, 0, text));
         }
     }
 }
@@ -464,15 +470,15 @@ pub fn long_cases() -> Vec<Case> {
             ("_", b'Z', "("),
         ] {
             let text = filled(before, c, after, length);
-            for call in *b"tnx" {
+            for call in *b"tnbx" {
                 cases.push(Case::new(call, Cursor::START, if call == b'x' { 8 } else { 0 }, &text));
             }
         }
         let text = filled("", b'\n', "(", length);
         for offset in [length - 2, length - 1, length, length + 1] {
-            cases.push(Case::new(b't', Cursor { offset, line: offset, column: 0 }, 0, &text));
-            cases.push(Case::new(b't', Cursor { offset, line: offset, column: offset }, 0, &text));
-            cases.push(Case::new(b't', Cursor { offset, line: 0, column: offset + 1 }, 0, &text));
+            for (line, column) in [(offset, 0), (offset, offset), (0, offset + 1)] {
+                cases.extend([b't', b'b'].map(|call| Case::new(call, Cursor { offset, line, column }, 0, &text)));
+            }
         }
     }
     cases

@@ -5,6 +5,7 @@ mod cuts;
 mod feeding;
 #[allow(dead_code)]
 mod kind;
+mod layout;
 #[allow(dead_code)]
 mod model;
 #[allow(dead_code)]

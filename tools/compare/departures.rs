@@ -34,7 +34,7 @@ pub fn show(budget: usize) {
             let held = readings(&case);
             let Some(why) = held[0].outside.or(has_foreign(text).then_some("foreign byte")) else { continue };
             let answer = &answers(&case, &held)[0];
-            ask_rust(&mut rust, &case, |_, _, theirs| {
+            ask_rust(&mut rust, &case, |_, theirs| {
                 if hold_against_rust(&case, theirs, answer, &mut Counts::default()).is_err() {
                     let ours = show_answers(&case, std::slice::from_ref(answer));
                     let line = format!("{} {}  {ours}; the Rust: {}", call as char, show_text(text), rust_says(theirs));

@@ -3,7 +3,7 @@
 use crate::Ask;
 use crate::judge::{Counts, Difference, Rust, judge};
 use crate::kind::Kind;
-use crate::model::Value;
+use crate::model::{Cursor, LayoutKind, LayoutText, Value};
 use crate::protocol::{Answer, Case, FILL, readings};
 
 #[derive(Copy, Clone, Debug, PartialEq, Eq)]
@@ -16,14 +16,61 @@ use Noticed::{ByTheModel, ByTheRust};
 /// A fault changes the answers at an index, or says that it cannot stand there.
 type Fault = fn(&mut Vec<Answer>, usize) -> bool;
 
-fn token(
-    answers: &mut [Answer],
-    at: usize,
-    change: impl FnOnce(&mut Kind, &mut usize, &mut crate::model::Cursor) -> bool,
-) -> bool {
+fn token(answers: &mut [Answer], at: usize, change: impl FnOnce(&mut Kind, &mut usize, &mut Cursor) -> bool) -> bool {
     match &mut answers[at] {
         Answer::Token { kind, start, next, .. } | Answer::Text { kind, start, next, .. } => change(kind, start, next),
-        Answer::Refused { .. } => false,
+        _ => false,
+    }
+}
+
+/// Changes where the layout before a token began; the token's start is told.
+fn layout_start(answers: &mut [Answer], at: usize, change: impl FnOnce(&mut usize, usize) -> bool) -> bool {
+    match &mut answers[at] {
+        Answer::Token { layout, start, .. } | Answer::Text { layout, start, .. } => change(layout, *start),
+        _ => false,
+    }
+}
+
+fn layout_text(answers: &mut [Answer], at: usize, change: impl FnOnce(&mut LayoutText)) -> bool {
+    match &mut answers[at] {
+        Answer::Layout(text) if text.kind != LayoutKind::Absent => {
+            change(text);
+            true
+        }
+        _ => false,
+    }
+}
+
+/// Puts an answer in the place of a layout text and of all behind it.
+fn instead_of_layout_text(answers: &mut Vec<Answer>, at: usize, make: impl FnOnce(LayoutText) -> Answer) -> bool {
+    let Answer::Layout(text) = answers[at] else { return false };
+    let is_text = text.kind != LayoutKind::Absent;
+    if is_text {
+        answers.truncate(at);
+        answers.push(make(text));
+    }
+    is_text
+}
+
+fn joined_layout_texts(answers: &mut Vec<Answer>, at: usize) -> bool {
+    match answers.get(at + 1) {
+        Some(Answer::Layout(LayoutText { kind, next, .. })) if *kind != LayoutKind::Absent => {
+            let behind = *next;
+            answers.remove(at + 1);
+            layout_text(answers, at, |text| text.next = behind)
+        }
+        _ => false,
+    }
+}
+
+/// Of the layout call, which is known by a layout text before.
+fn none_for_refused(answers: &mut [Answer], at: usize) -> bool {
+    match answers[..=at] {
+        [.., Answer::Layout(_), Answer::Refused { back, .. }] => {
+            answers[at] = Answer::Layout(LayoutText { kind: LayoutKind::Absent, start: back.offset, next: back });
+            true
+        }
+        _ => false,
     }
 }
 
@@ -51,7 +98,7 @@ fn renumbered(answers: &mut [Answer], at: usize, from: usize, to: usize) -> bool
     }
 }
 
-const FAULTS: [(&str, Noticed, Fault); 27] = [
+const FAULTS: [(&str, Noticed, Fault); 40] = [
     ("kind: every token a comma", ByTheRust, |a, i| {
         token(a, i, |kind, _, _| std::mem::replace(kind, Kind::Comma) != Kind::Comma)
     }),
@@ -126,7 +173,7 @@ const FAULTS: [(&str, Noticed, Fault); 27] = [
     }),
     ("a refusal accepted", ByTheRust, |a, i| {
         let Answer::Refused { at, back, .. } = a[i].clone() else { return false };
-        a[i] = Answer::Token { kind: Kind::Name, start: at, next: back, value: Value::Nothing };
+        a[i] = Answer::Token { kind: Kind::Name, start: at, next: back, value: Value::Nothing, layout: back.offset };
         true
     }),
     ("first token repeated", ByTheRust, |a, i| {
@@ -137,12 +184,52 @@ const FAULTS: [(&str, Noticed, Fault); 27] = [
         }
     }),
     ("last answer missing", ByTheRust, |a, i| i + 1 == a.len() && a.pop().is_some()),
+    ("start of the layout one too high", ByTheRust, |a, i| {
+        layout_start(a, i, |layout, _| {
+            *layout += 1;
+            true
+        })
+    }),
+    ("start of the token told for that of the layout", ByTheRust, |a, i| {
+        layout_start(a, i, |layout, start| std::mem::replace(layout, start) != start)
+    }),
+    ("layout text: another kind", ByTheRust, |a, i| {
+        layout_text(a, i, |text| {
+            text.kind = match text.kind {
+                LayoutKind::Blanks => LayoutKind::LineComment,
+                LayoutKind::LineComment => LayoutKind::BracketedComment,
+                _ => LayoutKind::Blanks,
+            }
+        })
+    }),
+    ("layout text: start one too high", ByTheRust, |a, i| layout_text(a, i, |text| text.start += 1)),
+    ("layout text: end one too high", ByTheRust, |a, i| layout_text(a, i, |text| text.next.offset += 1)),
+    ("layout text: end one too low", ByTheRust, |a, i| layout_text(a, i, |text| text.next.offset -= 1)),
+    ("layout text: none told for it", ByTheRust, |a, i| {
+        instead_of_layout_text(a, i, |text| {
+            let next = Cursor { offset: text.start, ..text.next };
+            Answer::Layout(LayoutText { kind: LayoutKind::Absent, start: text.start, next })
+        })
+    }),
+    ("layout text: refused", ByTheRust, |a, i| {
+        instead_of_layout_text(a, i, |text| Answer::Refused { number: 1, at: text.start, back: text.next, scratch: Vec::new() })
+    }),
+    ("layout text: left out", ByTheRust, |a, i| {
+        layout_text(a, i, |_| ()) && {
+            a.remove(i);
+            true
+        }
+    }),
+    ("two layout texts told as one", ByTheRust, joined_layout_texts),
+    ("no layout text told for a refusal", ByTheRust, |a, i| none_for_refused(a, i)),
     ("column one too high", ByTheModel, |a, i| {
         token(a, i, |_, _, next| {
             next.column += 1;
             true
         })
     }),
+    ("layout text: line one too high", ByTheModel, |a, i| layout_text(a, i, |text| text.next.line += 1)),
+    ("layout text: column one too high", ByTheModel, |a, i| layout_text(a, i, |text| text.next.column += 1)),
     ("offset of a refusal one too high", ByTheModel, |a, i| match &mut a[i] {
         Answer::Refused { at, .. } => {
             *at += 1;

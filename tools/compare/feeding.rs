@@ -1,12 +1,13 @@
 //! The calls that are compared, as they stand in include/thrinvage.h: the token call, and the reader that is fed chunks.
 
 /// Of a token: its fields in their order, for a comparison of them all.
-pub type Token = [u64; 8];
+pub type Token = [u64; 9];
 pub const OFFSET: usize = 0;
 pub const LINE: usize = 1;
 pub const COLUMN: usize = 2;
 pub const REFUSED_AT: usize = 3;
 pub const START: usize = 5;
+pub const LAYOUT: usize = 8;
 
 const FILE: u32 = 0;
 

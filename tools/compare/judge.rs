@@ -1,6 +1,7 @@
 //! Holds answers against the Rust, where demand 2's domain lets them be compared, and against the model everywhere.
 use crate::kind::Kind;
-use crate::model::{self, Cursor, Reading, Value};
+use crate::layout::layout_text;
+use crate::model::{self, Cursor, LayoutKind, LayoutText, Reading, Value};
 use crate::protocol::{Answer, Case, answers, readings};
 use oracle::api::{self as rust, Accepted, END_OF_FILE, Failure, INCOMPLETE_REDUCTION, Machine};
 use std::collections::BTreeMap;
@@ -10,6 +11,7 @@ pub struct Counts {
     pub cases: u64,
     pub tokens: u64,
     pub texts: u64,
+    pub layout_texts: u64,
     /// refusals 1, 2 and others
     pub refusals: [u64; 3],
     /// refusals 9 and 12, which a token that the Rust accepts owes
@@ -27,6 +29,7 @@ impl Counts {
         self.cases += more.cases;
         self.tokens += more.tokens;
         self.texts += more.texts;
+        self.layout_texts += more.layout_texts;
         for (sum, n) in self.refusals.iter_mut().zip(more.refusals) {
             *sum += n;
         }
@@ -52,6 +55,8 @@ pub enum Difference {
 
 /// One call of the Rust, from a cursor on.
 pub struct RustCall {
+    /// where its reader stands before it
+    pub from: usize,
     /// where `scan_for_layout`, asked alone, stops
     pub start: Result<usize, Failure>,
     pub answer: Result<Accepted, Failure>,
@@ -67,6 +72,11 @@ pub struct Rust {
     scout: Machine,
 }
 
+/// Where `scan_for_layout` stops.
+fn layout_end(scout: &mut Machine, text: &[u8], from: usize) -> Result<usize, Failure> {
+    scout.start(&text[from..]).skip_layout().map(|n| from + n)
+}
+
 /// The byte where a token starts, if layout is passed and the text has not ended.
 fn byte_at_start(case: &Case, start: Result<usize, Failure>) -> Option<u8> {
     case.text.get(start.ok()?).copied()
@@ -74,24 +84,24 @@ fn byte_at_start(case: &Case, start: Result<usize, Failure>) -> Option<u8> {
 
 /// The Rust's calls on a case, one after another while `go_on` says so. Of a field, demand 2 says "equal to `next_number_token` where a digit
 /// starts, and to `next_token` elsewhere".
-pub fn ask_rust(rust: &mut Rust, case: &Case, mut go_on: impl FnMut(usize, Cursor, &RustCall) -> bool) {
+pub fn ask_rust(rust: &mut Rust, case: &Case, mut go_on: impl FnMut(usize, &RustCall) -> bool) {
     let base = case.cursor.offset;
     let mut session = rust.reader.start(&case.text[base..]);
     let (mut offset, mut line, mut lines) = (base, case.cursor.line, 0);
     for index in 0.. {
-        let start = rust.scout.start(&case.text[offset..]).skip_layout().map(|n| offset + n);
+        let from = offset;
+        let start = layout_end(&mut rust.scout, &case.text, from);
         let answer = match byte_at_start(case, start) {
             Some(b'0'..=b'9') if case.call == b'n' => session.next_number_token(),
             _ => session.next_token(),
         };
-        let given = Cursor { offset, line, column: 0 };
         if let Ok(token) = &answer {
             offset = base + token.end;
             line += token.lines - lines;
             lines = token.lines;
         }
-        let call = RustCall { start, answer, end: offset, line };
-        if !go_on(index, given, &call) || call.answer.is_err() || case.call != b'T' {
+        let call = RustCall { from, start, answer, end: offset, line };
+        if !go_on(index, &call) || call.answer.is_err() || case.call != b'T' {
             return;
         }
     }
@@ -124,9 +134,21 @@ pub fn class_of_failure(failure: Failure) -> usize {
     }
 }
 
+fn same(what: &str, same: bool) -> Result<(), String> {
+    if same { Ok(()) } else { Err(what.to_string()) }
+}
+
+/// What the answers of the token call and of the text call have in common.
+fn hold_token(call: &RustCall, token: &Accepted, kind: Kind, layout: usize, start: usize, next: Cursor) -> Result<(), String> {
+    same("kind", kind == token.kind)?;
+    same("offset", next.offset == call.end)?;
+    same("line", next.line == call.line)?;
+    same("start of the span", call.start == Ok(start))?;
+    same("start of the layout", call.from == layout)
+}
+
 /// Demand 2's comparison of one answer.
 pub fn hold_against_rust(case: &Case, call: &RustCall, answer: &Answer, counts: &mut Counts) -> Result<(), String> {
-    let same = |what: &str, same: bool| if same { Ok(()) } else { Err(what.to_string()) };
     let byte_at_start = byte_at_start(case, call.start);
     match (&call.answer, answer) {
         (Err(failure), Answer::Refused { number, .. }) => {
@@ -149,27 +171,59 @@ pub fn hold_against_rust(case: &Case, call: &RustCall, answer: &Answer, counts: 
             counts.owed += 1;
             Ok(())
         }
-        (Ok(token), Answer::Token { kind, start, next, value }) => {
-            same("kind", *kind == token.kind)?;
-            same("offset", next.offset == call.end)?;
-            same("line", next.line == call.line)?;
-            same("start of the span", call.start == Ok(*start))?;
+        (Ok(token), Answer::Token { kind, start, next, value, layout }) => {
+            hold_token(call, token, *kind, *layout, *start, *next)?;
             same("value", Some(*value) == value_of(token.value))?;
             let quoted = matches!(byte_at_start, Some(b'\'' | b'"'));
             same("spelling", !is_textual(*kind) || quoted || case.text[*start..next.offset] == token.text)?;
             counts.tokens += 1;
             Ok(())
         }
-        (Ok(token), Answer::Text { kind, start, next, shown, .. }) => {
-            same("kind", *kind == token.kind && is_textual(*kind))?;
-            same("offset", next.offset == call.end)?;
-            same("line", next.line == call.line)?;
-            same("start of the span", call.start == Ok(*start))?;
-            same("decoded text", *shown == token.text)?;
+        (Ok(token), Answer::Text { kind, start, next, shown, layout, .. }) => {
+            hold_token(call, token, *kind, *layout, *start, *next)?;
+            same("decoded text", *shown == token.text && is_textual(*kind))?;
             counts.tokens += 1;
             counts.texts += 1;
             Ok(())
         }
+        (Ok(_), Answer::Layout(_)) => Err("a layout text".into()),
+    }
+}
+
+/// From the cursor on, where the Rust's reader stands when `scan_for_layout` begins, layout texts must lead to where it stops, one behind another, each of
+/// the kind and with the end that its bytes tell. There no layout text stands, or the text has ended. Where the Rust fails, the last call is refused alike.
+fn hold_layout_against_rust(
+    case: &Case,
+    stop: Result<usize, Failure>,
+    given: &[Answer],
+    counts: &mut Counts,
+) -> Result<(), String> {
+    let (last, texts) = given.split_last().ok_or("no answer")?;
+    let mut at = case.cursor.offset;
+    for text in texts {
+        let Answer::Layout(LayoutText { kind, start, next }) = text else { return Err("no layout text".into()) };
+        same("start of the layout text", *start == at)?;
+        same(
+            "kind or end of the layout text",
+            *kind != LayoutKind::Absent && layout_text(&case.text, at) == Some((*kind, next.offset)),
+        )?;
+        at = next.offset;
+        counts.layout_texts += 1;
+    }
+    match (stop, last) {
+        (Ok(end), Answer::Layout(LayoutText { kind: LayoutKind::Absent, start, next })) if end < case.text.len() => {
+            same("end of the layout", [at, *start, next.offset] == [end; 3])
+        }
+        (Ok(end), Answer::Refused { number: 1, .. }) if end == case.text.len() => {
+            counts.refusals[0] += 1;
+            same("end of the layout", at == end)
+        }
+        (Err(failure), Answer::Refused { number, .. }) => {
+            counts.refusals[[2, 0, 1][class_of_refusal(*number)]] += 1;
+            same("refused as another kind", class_of_failure(failure) == *number)?;
+            same("a layout text is left out", layout_text(&case.text, at).is_none_or(|(kind, _)| kind == LayoutKind::Absent))
+        }
+        _ => Err("last answer".into()),
     }
 }
 
@@ -180,8 +234,12 @@ pub fn judge(rust: &mut Rust, case: &Case, held: &[Reading], given: &[Answer], c
     let mut found = None;
     if let Some(why) = foreign.or(held[0].outside) {
         *counts.outside.entry(why).or_default() += 1;
+    } else if case.call == b'b' {
+        let stop = layout_end(&mut rust.scout, &case.text, case.cursor.offset);
+        let verdict = hold_layout_against_rust(case, stop, given, counts);
+        found = verdict.err().map(|what| Difference::FromRust(format!("{what}; the Rust's layout ends: {stop:?}")));
     } else {
-        ask_rust(rust, case, |index, _, call| {
+        ask_rust(rust, case, |index, call| {
             if let Some(why) = held.get(index).and_then(|reading| reading.outside) {
                 *counts.outside.entry(why).or_default() += 1;
                 return false;

@@ -5,6 +5,7 @@ mod cases;
 mod departures;
 mod faults;
 mod judge;
+mod layout;
 mod model;
 mod notation;
 mod protocol;
@@ -34,10 +35,10 @@ const BATCH_CASES: usize = 25_000;
 const BATCH_BYTES: usize = 8_000_000;
 /// Where an answer has another form, the cases behind it are put to the probe anew, so often.
 const MOST_RUNS: usize = 20;
-/// Runs of this many cases hold every byte behind every beginning too, which makes 64,512 of them.
-const EVERY_BYTE_FROM: usize = 150_000;
+/// Runs of this many cases hold every byte behind every beginning too, which makes 86,016 of them.
+const EVERY_BYTE_FROM: usize = 200_000;
 /// Runs of this many cases hold the texts at the limits of length too, 65,535 bytes each.
-const LONG_FROM: usize = 200_000;
+const LONG_FROM: usize = 250_000;
 const SHOWN_DIFFERENCES: usize = 5;
 /// Shrinking puts no more bytes than these to the probe at once.
 const SHRINK_BYTES: usize = 1_000_000;
@@ -145,9 +146,9 @@ fn run_probe(probe: &[String], batch: &[Case]) -> String {
 fn take_answers<'l>(case: &Case, lines: &mut impl Iterator<Item = &'l str>) -> (Vec<Answer>, bool) {
     let mut given = Vec::new();
     while let Some(answer) = Answer::parse(case.call, lines) {
-        let last = case.call != b'T' || answer.is_refused();
+        let goes_on = answer.goes_on(case.call).is_some();
         given.push(answer);
-        if last {
+        if !goes_on {
             return (given, true);
         }
     }
@@ -328,6 +329,7 @@ fn compare(options: &Options) -> ExitCode {
     let [one, two, others] = counts.refusals;
     println!("cases {}", counts.cases);
     println!("tokens compared {}, {} of them with their decoded text", counts.tokens, counts.texts);
+    println!("layout texts compared {}", counts.layout_texts);
     println!("refusals compared {}: {one} of 1, {two} of 2, {others} others", one + two + others);
     println!("refusals 9 and 12 of tokens that the Rust accepts {}", counts.owed);
     let outside: Vec<String> = counts.outside.iter().map(|(why, n)| format!("{n} {why}")).collect();

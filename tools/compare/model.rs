@@ -1,5 +1,5 @@
-//! Document 01's tokenizer, read plainly: a function a rule, in 01's order, from the words of 01, of requests 1 and 7 of document 02
-//! and of the settled open points (T1 to T26, R1.1 to R1.7, R7.1 to R7.3).
+//! Document 01's tokenizer, read plainly: a function a rule, in 01's order, from the words of 01, of requests 1, 7 and 8 of document 02
+//! and of the settled open points (T1 to T26, R1.1 to R1.7, R7.1 to R7.3, R8.1 to R8.15).
 //! It shares no code with lexer.rs, but its author had read lexer.rs, and T1 and T2 were settled by it: where all three agree, a misreading
 //! that they share is not ruled out. It stands in for the probe, decides what lies in demand 2's domain, and checks the answers written by
 //! hand. It is no part of what is proved.
@@ -30,11 +30,30 @@ pub enum Value {
 pub struct Token {
     pub kind: Kind,
     pub value: Value,
+    /// where the layout before it began
+    pub layout: usize,
     pub start: usize,
     pub next: Cursor,
     /// what a name, variable or string stands for
     pub text: Vec<u8>,
     pub quoted: bool,
+}
+
+/// In the order of their numbers in the C interface.
+#[derive(Copy, Clone, Debug, PartialEq, Eq)]
+pub enum LayoutKind {
+    /// no layout text, told as an empty one
+    Absent,
+    Blanks,
+    LineComment,
+    BracketedComment,
+}
+
+#[derive(Copy, Clone, Debug, PartialEq, Eq)]
+pub struct LayoutText {
+    pub kind: LayoutKind,
+    pub start: usize,
+    pub next: Cursor,
 }
 
 #[derive(Copy, Clone, Debug, PartialEq, Eq)]
@@ -156,12 +175,18 @@ pub fn text_call(text: &[u8], cursor: Cursor, room: usize) -> Reading {
     reading
 }
 
+/// The layout call: one layout text at a time, refused as the token call is while it is in layout (R8.12, R8.13).
+pub fn layout_call(text: &[u8], cursor: Cursor) -> Result<LayoutText, Fault> {
+    let start = cursor.offset;
+    let (kind, end) = Reader::new(text, cursor, Source::File)?.layout_text(start)?;
+    Ok(LayoutText { kind, start, next: cursor.moved_to(text, end) })
+}
+
 pub fn token_call(text: &[u8], cursor: Cursor, source: Source) -> Reading {
-    if text.len() > LONGEST_TEXT || !cursor.is_valid(text) {
-        let fault = Fault { refusal: Refusal::NotValid, offset: 0 };
-        return Reading { answer: Err(fault), outside: Some("text too long or cursor not valid") };
-    }
-    let mut reader = Reader { text, source, start: cursor.offset, out_of_limit: false, outside: None };
+    let mut reader = match Reader::new(text, cursor, source) {
+        Ok(reader) => reader,
+        Err(fault) => return Reading { answer: Err(fault), outside: Some("text too long or cursor not valid") },
+    };
     let answer = reader.token(cursor);
     if reader.out_of_limit {
         reader.outside.get_or_insert("out of limit");
@@ -170,6 +195,13 @@ pub fn token_call(text: &[u8], cursor: Cursor, source: Source) -> Reading {
 }
 
 impl Reader<'_> {
+    fn new(text: &[u8], cursor: Cursor, source: Source) -> Result<Reader<'_>, Fault> {
+        if text.len() > LONGEST_TEXT || !cursor.is_valid(text) {
+            return Err(Fault { refusal: Refusal::NotValid, offset: 0 });
+        }
+        Ok(Reader { text, source, start: cursor.offset, out_of_limit: false, outside: None })
+    }
+
     /// A rule looks at a byte: 1 if the text has ended, 5 if the byte is foreign (T2).
     fn look(&self, at: usize) -> Result<u8, Fault> {
         match self.text.get(at) {
@@ -212,13 +244,26 @@ impl Reader<'_> {
 
     fn layout(&self, mut at: usize) -> Result<usize, Fault> {
         loop {
-            at = match self.look(at)? {
-                c if is_layout(c) => at + 1,
-                b'%' => self.line_comment(at + 1)?,
-                b'/' if self.look(at + 1)? == b'*' => self.bracketed_comment(at)?,
-                _ => return Ok(at),
+            at = match self.layout_text(at)? {
+                (LayoutKind::Absent, _) => return Ok(at),
+                (_, end) => end,
             }
         }
+    }
+
+    /// The layout text that starts at an offset, and where it ends; its first character tells which it is (R8.8 to R8.11, R8.14).
+    fn layout_text(&self, at: usize) -> Result<(LayoutKind, usize), Fault> {
+        Ok(match self.look(at)? {
+            c if is_layout(c) => (LayoutKind::Blanks, self.blanks_end(at)),
+            b'%' => (LayoutKind::LineComment, self.line_comment(at + 1)?),
+            b'/' if self.look(at + 1)? == b'*' => (LayoutKind::BracketedComment, self.bracketed_comment(at)?),
+            _ => (LayoutKind::Absent, at),
+        })
+    }
+
+    /// What ends the run is not looked at: it is the next call's.
+    fn blanks_end(&self, at: usize) -> usize {
+        at + self.text[at..].iter().take_while(|c| is_layout(**c)).count()
     }
 
     fn line_comment(&self, at: usize) -> Result<usize, Fault> {
@@ -280,7 +325,7 @@ impl Reader<'_> {
         }
         let Raw { kind, value, text, end } = raw;
         let quoted = matches!(first, b'\'' | b'"');
-        Ok(Token { kind, value, start, next: cursor.moved_to(self.text, end), text, quoted })
+        Ok(Token { kind, value, layout: cursor.offset, start, next: cursor.moved_to(self.text, end), text, quoted })
     }
 
     fn punctuation(&self, kind: Kind, length: usize) -> Raw {

@@ -1,10 +1,10 @@
 //! Cases and answers as a person reads them; `tools/cases/make` reads the same.
 //!
 //! `CALL[/ROOM][@OFFSET:LINE:COLUMN] «TEXT»  ANSWER; ANSWER..` where an answer is
-//! `KIND START..END[(LINE:COLUMN)] [= VALUE] [«SHOWN»]` or `refused NUMBER@OFFSET`. Printable bytes stand for themselves, the bytes below 32
-//! and 127 as Unicode's pictures of them, others as ‹hh›; ‹c×N› is a long run.
-use crate::model::{Cursor, Value};
-use crate::protocol::{Answer, Case, kind_name};
+//! `KIND START..END[(LINE:COLUMN)] [[FROM]] [= VALUE] [«SHOWN»]`, `none OFFSET` or `refused NUMBER@OFFSET`. Printable bytes stand for
+//! themselves, the bytes below 32 and 127 as Unicode's pictures of them, others as ‹hh›; ‹c×N› is a long run.
+use crate::model::{Cursor, LayoutKind, LayoutText, Value};
+use crate::protocol::{Answer, Case, KINDS, LAYOUT_KINDS, kind_name};
 
 const LONG_RUN: usize = 30;
 
@@ -37,19 +37,31 @@ fn place(text: &[u8], given: Cursor, start: usize, next: Cursor) -> String {
     format!("{start}..{}{place}", next.offset)
 }
 
+/// Left out where it is the given cursor's.
+fn layout_start(given: Cursor, layout: usize) -> String {
+    if layout == given.offset { String::new() } else { format!(" [{layout}]") }
+}
+
 /// `given` is the cursor that the call was given.
 pub fn show_answer(text: &[u8], given: Cursor, answer: &Answer) -> String {
     match answer {
-        Answer::Token { kind, start, next, value } => {
+        Answer::Token { kind, start, next, value, layout } => {
             let value = match value {
                 Value::Nothing => String::new(),
                 Value::Integer(n) => format!(" = {n}"),
                 Value::Float(bits) => format!(" = {:?}", f64::from_bits(*bits)),
             };
-            format!("{} {}{value}", kind_name(*kind), place(text, given, *start, *next))
+            format!("{} {}{}{value}", kind_name(&KINDS, *kind), place(text, given, *start, *next), layout_start(given, *layout))
         }
-        Answer::Text { kind, start, next, shown, .. } => {
-            format!("{} {} {}", kind_name(*kind), place(text, given, *start, *next), show_text(shown))
+        Answer::Text { kind, start, next, shown, layout, .. } => {
+            let layout = layout_start(given, *layout);
+            format!("{} {}{layout} {}", kind_name(&KINDS, *kind), place(text, given, *start, *next), show_text(shown))
+        }
+        Answer::Layout(LayoutText { kind: LayoutKind::Absent, start, next }) if *start == next.offset && *next == given => {
+            format!("none {start}")
+        }
+        Answer::Layout(LayoutText { kind, start, next }) => {
+            format!("{} {}", kind_name(&LAYOUT_KINDS, *kind), place(text, given, *start, *next))
         }
         Answer::Refused { number, at, .. } => format!("refused {number}@{at}"),
     }
@@ -61,9 +73,7 @@ pub fn show_answers(case: &Case, answers: &[Answer]) -> String {
         .iter()
         .map(|answer| {
             let line = show_answer(&case.text, given, answer);
-            if let Answer::Token { next, .. } = answer {
-                given = *next;
-            }
+            given = answer.goes_on(case.call).unwrap_or(given);
             line
         })
         .collect();

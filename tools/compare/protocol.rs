@@ -1,6 +1,6 @@
 //! The probe's format (docs/PROBE.md): cases out, answers in, and the model's answers in the same form.
 use crate::kind::Kind;
-use crate::model::{self, Cursor, Fault, Reading, Source, Token, Value};
+use crate::model::{self, Cursor, Fault, LayoutKind, LayoutText, Reading, Source, Token, Value};
 use std::io::{self, BufRead};
 
 pub const FILL: u8 = 165;
@@ -8,7 +8,7 @@ pub const LARGEST_ROOM: usize = 4096;
 
 #[derive(Clone, Debug, PartialEq, Eq)]
 pub struct Case {
-    /// `t`, `T`, `n` or `x`
+    /// `t`, `T`, `n`, `b` or `x`
     pub call: u8,
     pub cursor: Cursor,
     pub room: usize,
@@ -18,8 +18,9 @@ pub struct Case {
 /// One answer line; of the text call, with its scratch line.
 #[derive(Clone, Debug, PartialEq, Eq)]
 pub enum Answer {
-    Token { kind: Kind, start: usize, next: Cursor, value: Value },
-    Text { kind: Kind, start: usize, next: Cursor, shown: Vec<u8>, scratch: Vec<u8> },
+    Token { kind: Kind, start: usize, next: Cursor, value: Value, layout: usize },
+    Text { kind: Kind, start: usize, next: Cursor, shown: Vec<u8>, layout: usize, scratch: Vec<u8> },
+    Layout(LayoutText),
     Refused { number: usize, at: usize, back: Cursor, scratch: Vec<u8> },
 }
 
@@ -42,12 +43,19 @@ pub const KINDS: [(Kind, &str); 15] = [
     (Kind::End, "end"),
 ];
 
-pub fn kind_name(kind: Kind) -> &'static str {
-    KINDS.iter().find(|(k, _)| *k == kind).expect("every kind is listed").1
+pub const LAYOUT_KINDS: [(LayoutKind, &str); 4] = [
+    (LayoutKind::Absent, "none"),
+    (LayoutKind::Blanks, "blanks"),
+    (LayoutKind::LineComment, "line_comment"),
+    (LayoutKind::BracketedComment, "bracketed_comment"),
+];
+
+pub fn kind_name<K: PartialEq>(kinds: &[(K, &'static str)], kind: K) -> &'static str {
+    kinds.iter().find(|(k, _)| *k == kind).expect("every kind is listed").1
 }
 
-fn kind_named(name: &str) -> Option<Kind> {
-    KINDS.iter().find(|(_, n)| *n == name).map(|(k, _)| *k)
+fn kind_named<K: Copy>(kinds: &[(K, &str)], name: &str) -> Option<K> {
+    kinds.iter().find(|(_, n)| *n == name).map(|(k, _)| *k)
 }
 
 impl Case {
@@ -100,23 +108,31 @@ fn unhex(word: &str) -> Option<Vec<u8>> {
 }
 
 impl Answer {
-    pub fn is_refused(&self) -> bool {
-        matches!(self, Answer::Refused { .. })
+    /// The cursor for the next call of a case; none where no call follows this answer.
+    pub fn goes_on(&self, call: u8) -> Option<Cursor> {
+        match self {
+            Answer::Token { next, .. } if call == b'T' => Some(*next),
+            Answer::Layout(LayoutText { kind, next, .. }) if *kind != LayoutKind::Absent => Some(*next),
+            _ => None,
+        }
     }
 
     pub fn write(&self, call: u8, out: &mut String) {
         let place = |c: &Cursor| format!("{} {} {}", c.offset, c.line, c.column);
         let (line, scratch) = match self {
-            Answer::Token { kind, start, next, value } => {
+            Answer::Token { kind, start, next, value, layout } => {
                 let value = match value {
                     Value::Nothing => "-".to_string(),
                     Value::Integer(n) => n.to_string(),
                     Value::Float(bits) => format!("f{bits:016x}"),
                 };
-                (format!("token {} {start} {} {value}\n", kind_name(*kind), place(next)), None)
+                (format!("token {} {start} {} {value} {layout}\n", kind_name(&KINDS, *kind), place(next)), None)
             }
-            Answer::Text { kind, start, next, shown, scratch } => {
-                (format!("text {} {start} {} {}\n", kind_name(*kind), place(next), hex(shown)), Some(scratch))
+            Answer::Text { kind, start, next, shown, layout, scratch } => {
+                (format!("text {} {start} {} {} {layout}\n", kind_name(&KINDS, *kind), place(next), hex(shown)), Some(scratch))
+            }
+            Answer::Layout(LayoutText { kind, start, next }) => {
+                (format!("layout {} {start} {}\n", kind_name(&LAYOUT_KINDS, *kind), place(next)), None)
             }
             Answer::Refused { number, at, back, scratch } => {
                 (format!("refused {number} {at} {}\n", place(back)), (call == b'x').then_some(scratch))
@@ -135,22 +151,33 @@ impl Answer {
         let place =
             |i: usize| -> Option<Cursor> { Some(Cursor { offset: number(i)?, line: number(i + 1)?, column: number(i + 2)? }) };
         let mut scratch = || if call == b'x' { unhex(lines.next()?.strip_prefix("scratch ")?) } else { Some(Vec::new()) };
-        match (fields[0], fields.len(), call == b'x') {
-            ("token", 7, false) => {
+        match (fields[0], fields.len(), call) {
+            ("token", 8, b't' | b'T' | b'n') => {
                 let value = match fields[6] {
                     "-" => Value::Nothing,
                     f if f.starts_with('f') && f.len() == 17 => Value::Float(u64::from_str_radix(&f[1..], 16).ok()?),
                     n => Value::Integer(n.parse().ok()?),
                 };
-                Some(Answer::Token { kind: kind_named(fields[1])?, start: number(2)?, next: place(3)?, value })
+                Some(Answer::Token {
+                    kind: kind_named(&KINDS, fields[1])?,
+                    start: number(2)?,
+                    next: place(3)?,
+                    value,
+                    layout: number(7)?,
+                })
             }
-            ("text", 7, true) => Some(Answer::Text {
-                kind: kind_named(fields[1])?,
+            ("text", 8, b'x') => Some(Answer::Text {
+                kind: kind_named(&KINDS, fields[1])?,
                 start: number(2)?,
                 next: place(3)?,
                 shown: unhex(fields[6])?,
+                layout: number(7)?,
                 scratch: scratch()?,
             }),
+            ("layout", 6, b'b') => {
+                let kind = kind_named(&LAYOUT_KINDS, fields[1])?;
+                Some(Answer::Layout(LayoutText { kind, start: number(2)?, next: place(3)? }))
+            }
             ("refused", 6, _) => {
                 Some(Answer::Refused { number: number(1)?, at: number(2)?, back: place(3)?, scratch: scratch()? })
             }
@@ -159,13 +186,13 @@ impl Answer {
     }
 }
 
-/// The model's readings of a case, one a call.
+/// The model's readings of a case, one a call; of `b`, that of the token call there, which tells whether the case lies in the domain.
 pub fn readings(case: &Case) -> Vec<Reading> {
     let Case { call, cursor, room, text } = case;
     match call {
         b'n' => vec![model::token_call(text, *cursor, Source::Field)],
         b'x' => vec![model::text_call(text, *cursor, *room)],
-        b't' => vec![model::token_call(text, *cursor, Source::File)],
+        b't' | b'b' => vec![model::token_call(text, *cursor, Source::File)],
         _ => {
             let mut readings = vec![model::token_call(text, *cursor, Source::File)];
             while let Ok(token) = &readings[readings.len() - 1].answer {
@@ -176,22 +203,46 @@ pub fn readings(case: &Case) -> Vec<Reading> {
     }
 }
 
+fn refused(fault: Fault, cursor: Cursor, lent: Vec<u8>) -> Answer {
+    Answer::Refused { number: fault.refusal as usize, at: fault.offset, back: cursor, scratch: lent }
+}
+
 /// A reading as the probe would answer it; `cursor` is the cursor that the call was given.
 pub fn answer(case: &Case, cursor: Cursor, reading: &Reading) -> Answer {
     let lent = vec![FILL; case.room];
     match &reading.answer {
-        Err(Fault { refusal, offset }) => Answer::Refused { number: *refusal as usize, at: *offset, back: cursor, scratch: lent },
-        Ok(Token { kind, start, next, text, quoted, .. }) if case.call == b'x' => {
+        Err(fault) => refused(*fault, cursor, lent),
+        Ok(Token { kind, layout, start, next, text, quoted, .. }) if case.call == b'x' => {
             let written = if *quoted { text.len() } else { 0 };
             let scratch = [&text[..written], &lent[written..]].concat();
-            Answer::Text { kind: *kind, start: *start, next: *next, shown: text.clone(), scratch }
+            Answer::Text { kind: *kind, start: *start, next: *next, shown: text.clone(), layout: *layout, scratch }
         }
-        Ok(Token { kind, start, next, value, .. }) => Answer::Token { kind: *kind, start: *start, next: *next, value: *value },
+        Ok(Token { kind, layout, start, next, value, .. }) => {
+            Answer::Token { kind: *kind, start: *start, next: *next, value: *value, layout: *layout }
+        }
     }
+}
+
+/// Calls one after another, each from the cursor that the last one gave. No text has more tokens or layout texts than bytes, so a cursor that
+/// stands still ends the case too.
+pub fn answers_on(case: &Case, call: impl Fn(Cursor) -> Answer) -> Vec<Answer> {
+    let mut answers = vec![call(case.cursor)];
+    for index in 0..case.text.len() {
+        let Some(next) = answers[index].goes_on(case.call) else { break };
+        answers.push(call(next));
+    }
+    answers
+}
+
+fn layout_answer(text: &[u8], cursor: Cursor) -> Answer {
+    model::layout_call(text, cursor).map_or_else(|fault| refused(fault, cursor, Vec::new()), Answer::Layout)
 }
 
 /// The answers to a case, by the model.
 pub fn answers(case: &Case, readings: &[Reading]) -> Vec<Answer> {
+    if case.call == b'b' {
+        return answers_on(case, |cursor| layout_answer(&case.text, cursor));
+    }
     let mut cursor = case.cursor;
     readings
         .iter()

@@ -1,5 +1,5 @@
 //! Faults on purpose, for the self-test: a comparison that cannot fail is worth nothing. Each spoils what a reader holds before a call, or what it gives.
-use crate::feeding::{Feeding, MORE, OFFSET, READ, REFUSED_AT, START, Token};
+use crate::feeding::{Feeding, LAYOUT, MORE, OFFSET, READ, REFUSED_AT, START, Token};
 use crate::whole::{LONGEST_TOKEN, OUT_OF_LIMIT, TOKEN_TOO_LONG};
 
 type Answer = (u32, Token);
@@ -50,9 +50,11 @@ fn refuse_1024(feeding: &mut Feeding, answer: &mut Answer) {
     }
 }
 
-pub const SLIPS: [(&str, Before, Behind); 20] = [
-    ("forgets the layout before a token", |f| f.state.layout = 0, as_given),
-    ("keeps the layout over a token", |f| f.state.layout = 1, as_given),
+pub const SLIPS: [(&str, Before, Behind); 22] = [
+    ("forgets the layout before a token", |f| f.state.layout = f.state.offset, as_given),
+    ("takes a token's last byte for layout", |f| f.state.layout = f.state.layout.saturating_sub(1), as_given),
+    ("lets the layout begin with the text", |f| f.state.layout = 0, as_given),
+    ("gives a token's start for that of its layout", as_it_is, |_, a| a.1[LAYOUT] = a.1[START]),
     ("counts no line", |f| f.state.line = 0, as_given),
     ("counts columns from the chunk's start", |f| f.state.column = 0, as_given),
     ("forgets that it is in a comment", |f| (f.state.mode, f.state.slash) = (0, 0), as_given),

@@ -29,28 +29,29 @@ fn answer(case: &Case, given: Cursor, call: &RustCall, slash: usize) -> Option<A
     let (kind, start) = (token.kind, call.start.ok()?);
     let next = given.moved_to(&case.text, call.end);
     assert_eq!(next.line, call.line, "lines by offsets and the Rust's own");
+    let layout = call.from;
     if case.call != b'x' {
-        return Some(Answer::Token { kind, start, next, value: value_of(token.value)? });
+        return Some(Answer::Token { kind, start, next, value: value_of(token.value)?, layout });
     }
     let written = if matches!(case.text[start], b'\'' | b'"') { token.text.len() } else { 0 };
     if !is_textual(kind) || written > case.room {
         return None;
     }
     let scratch = [&token.text[..written], &lent[written..]].concat();
-    Some(Answer::Text { kind, start, next, shown: token.text.clone(), scratch })
+    Some(Answer::Text { kind, start, next, shown: token.text.clone(), layout, scratch })
 }
 
-/// The Rust's answers to a case, if the case lies in the domain and the Rust fixes them all.
+/// The Rust's answers to a case, if the case lies in the domain and the Rust fixes them all: it has no layout call.
 fn rust_answers(rust: &mut Rust, case: &Case) -> Option<Vec<Answer>> {
     let held = readings(case);
-    if model::has_foreign(&case.text) || held.iter().any(|reading| reading.outside.is_some()) {
+    if case.call == b'b' || model::has_foreign(&case.text) || held.iter().any(|reading| reading.outside.is_some()) {
         return None;
     }
     // 01's "its slash": where the model, too, sees the comment that is not closed
     let slash = held.last()?.answer.as_ref().err().map_or(0, |fault| fault.offset);
     let mut given = case.cursor;
     let mut fixed = Some(Vec::new());
-    ask_rust(rust, case, |_, _, call| {
+    ask_rust(rust, case, |_, call| {
         let made = answer(case, given, call, slash);
         if let Some(Answer::Token { next, .. }) = &made {
             given = *next;

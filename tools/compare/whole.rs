@@ -1,6 +1,8 @@
 //! What a reader of chunks must hand out, from the token call on the whole text: its tokens, and then the first refusal; or 15 at the start of a longer
 //! token (document 02, request 3).
 use crate::feeding::{OFFSET, READ, REFUSED_AT, START, Token, next_token};
+use crate::layout::{layout_text, position};
+use crate::model::LayoutKind;
 
 pub const LONGEST_TEXT: usize = 65_535;
 pub const LONGEST_TOKEN: usize = 1_024;
@@ -94,23 +96,15 @@ impl Whole {
     }
 }
 
-fn position(text: &[u8], from: usize, mark: &[u8]) -> Option<usize> {
-    text[from..].windows(mark.len()).position(|part| part == mark).map(|at| from + at)
-}
-
-/// Where a token starts behind layout; nowhere, if the text ends or a comment is not closed. A foreign byte in a comment is passed here: the token call
-/// says of it what is to be said.
-pub fn token_start(text: &[u8], from: usize) -> Option<usize> {
+/// Where a token starts behind layout; nowhere, if the text ends or a comment is not closed.
+fn token_start(text: &[u8], from: usize) -> Option<usize> {
     let mut at = from;
-    loop {
-        at = match text.get(at..)? {
-            [b' ' | b'\t' | b'\n' | b'\r', ..] => at + 1,
-            [b'%', ..] => position(text, at, b"\n")? + 1,
-            [b'/', b'*', ..] => position(text, at + 2, b"*/")? + 2,
-            [] => return None,
-            _ => return Some(at),
-        }
+    while let (kind, end) = layout_text(text, at)?
+        && kind != LayoutKind::Absent
+    {
+        at = end;
     }
+    (at < text.len()).then_some(at)
 }
 
 fn digits_end(text: &[u8], from: usize, base: u32) -> usize {
