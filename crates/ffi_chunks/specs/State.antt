@@ -1,7 +1,7 @@
 -- The C interface of the reader that is fed chunks: a reader as the twelve numbers of `struct thrinvage_reader`, what these numbers mean, and what a
 -- feeding leaves. Definitions only.
 use Prim.Native.Nat.{ℕ}
-use mathlib.Core.Bool.{Bool, true, false, cond, _&&_}
+use mathlib.Core.Bool.{Bool, true, cond, _&&_}
 use mathlib.Core.List.{List, [], _∷_}
 use lib.Dec.{eqb, ltb}
 use lib.ListN.{getD}

@@ -14,7 +14,6 @@ use Rattle.lexer.specs.declared.token.Mark.{Mark}
 use Rattle.lexer.specs.declared.token.Token.{Token}
 use Rattle.lexer.specs.declared.token.Source.{Source}
 use Rattle.lexer.proofs.EachToken.{Each, plain-each, read-each}
-use Rattle.lexer.proofs.Looks.{Seen}
 use Rattle.lexer.proofs.Spans.{by-test}
 
 -- a token, if it is one, of the kind's answer v

@@ -7,7 +7,7 @@ use native.Mathlib.Decide.{decLe}
 use native.Mathlib.Omega.{arith}
 use borrow.Author.Tests.{leb-true, ne-eqb}
 use lib.Dec.{eqb, leb}
-use lib.ListN.{length, take, drop, getD, length-take, length-drop}
+use lib.ListN.{length, getD, length-take, length-drop}
 use lib.Seq.{take-add, drop-drop}
 use Rattle.lexer.specs.Chars.{newline}
 use Rattle.lexer.specs.Cursor.{longest, step, walk, part, moveTo, along, valid, Valid, Movable, Along}

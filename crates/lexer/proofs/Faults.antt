@@ -8,7 +8,7 @@ use native.Mathlib.Omega.{arith}
 use borrow.Author.Tests.{eqb-true}
 use lib.Dec.{eqb, leb, ltb}
 use lib.ListN.{length, drop, getD}
-use Rattle.lexer.specs.Chars.{is, classOf, within, among, smallLetter, capitalLetter, underscoreChar, decimalDigit, graphicTokenChar, layoutChar, soloChar, quoteChar, foreignByte, tab, newline, percent, star, slash, singleQuote, doubleQuote, cut, semicolon, backslash, point, bar, underscore, plus, minus, smallX, smallO, smallB, smallE, capitalE}
+use Rattle.lexer.specs.Chars.{is, classOf, within, among, smallLetter, capitalLetter, underscoreChar, decimalDigit, graphicTokenChar, layoutChar, soloChar, quoteChar, foreignByte, newline, percent, star, slash, singleQuote, doubleQuote, cut, semicolon, backslash, point, bar, underscore, plus, minus, smallX, smallO, smallB, smallE, capitalE}
 use Rattle.lexer.specs.Cursor.{valid}
 use Rattle.lexer.specs.Digits.{isDigit, digitsAt, beyond}
 use Rattle.lexer.specs.Float.{floatValue}

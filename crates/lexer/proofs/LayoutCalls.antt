@@ -1,16 +1,16 @@
 -- The layout call: what it gives is what 6.4.1 calls so, and text after text it comes to where layout ends. Assumes nothing.
 use Prim.Native.Nat.{ℕ, zero, suc, _+_, _-_, _<_, _≤_}
-use mathlib.Core.Path.{_≡_, refl, sym, _∙_, ap, subst}
+use mathlib.Core.Path.{_≡_, refl, sym, _∙_, ap}
 use mathlib.Core.Bool.{Bool, true, false, cond, true≢false}
 use mathlib.Core.List.{List}
 use native.Mathlib.Omega.{arith}
-use borrow.Author.Tests.{eq-eqb, ne-eqb, eqb-true, eqb-false}
+use borrow.Author.Tests.{eq-eqb, ne-eqb, eqb-true}
 use lib.Dec.{eqb, ltb}
 use lib.ListN.{length, getD}
 use Rattle.lexer.specs.Chars.{is, layoutChar, percent, slash, star}
 use Rattle.lexer.specs.Cursor.{walk, part, moveTo, valid, Valid}
 use Rattle.lexer.specs.Layout.{singleLineComment, bracketedComment, slashed, layoutTextOf, layoutText, layoutEnd, moved, stepped}
-use Rattle.lexer.specs.LayoutCall.{layoutKind, givenEnd, givenLayout, layoutGiven, nextLayout, Given}
+use Rattle.lexer.specs.LayoutCall.{layoutKind, givenEnd, givenLayout, layoutGiven, nextLayout}
 use Rattle.lexer.specs.Look.{lookahead}
 use Rattle.lexer.specs.Stretch.{runOf}
 use Rattle.lexer.specs.Token.{Text, Lexeme, lexeme, refused, lexemeTo, afterLayout, tokenSince, lexemeSince, answered, notValid, nextToken}

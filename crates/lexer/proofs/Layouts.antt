@@ -2,18 +2,17 @@
 use mathlib.Core.Path.{_≡_, refl, sym, _∙_, ap}
 use mathlib.Core.Bool.{Bool, true, false, cond}
 use mathlib.Core.List.{List, [], _∷_}
-use Prim.Native.Nat.{ℕ, zero, suc, _+_, _-_, _<_, _≤_}
+use Prim.Native.Nat.{ℕ, _+_, _-_, _<_, _≤_}
 use native.Mathlib.Nat.{add-zero}
 use native.Mathlib.Omega.{arith}
 use borrow.Author.Tests.{eq-eqb, ne-eqb, eqb-true, eqb-false}
 use lib.Dec.{eqb}
-use lib.ListN.{length, getD, drop, length-drop}
+use lib.ListN.{length, getD}
 use Rattle.lexer.specs.Chars.{is, classOf, layoutChar, foreignByte, newline, space, percent, star, slash}
 use Rattle.lexer.specs.Cursor.{moveTo, along, Valid, Along}
 use Rattle.lexer.specs.Items.{stop, on, same}
 use Rattle.lexer.specs.Layout.{singleLineComment, unclosed, commentText, commentOpened, bracketedComment, slashed, layoutTextOf, layoutText, layoutTurn, layoutTexts, ended, layoutEnd, moved, stepped, layoutTo}
 use Rattle.lexer.specs.Look.{front, needed, lookahead}
-use Rattle.lexer.specs.Refusal.{fault}
 use Rattle.lexer.specs.Stretch.{inStretch, stretchEnd}
 use Rattle.lexer.specs.declared.refusal.Fault.{Fault}
 use Rattle.lexer.specs.declared.chars.Look.{Look}

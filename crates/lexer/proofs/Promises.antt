@@ -1,7 +1,7 @@
 -- Where a token ends: behind its start, within the text; and the cursor behind it is valid. Assumes nothing.
-use mathlib.Core.Path.{_≡_, refl, sym, _∙_, ap}
+use mathlib.Core.Path.{_≡_, refl, sym, _∙_}
 use mathlib.Core.Logic.{⊎-elim}
-use mathlib.Core.Bool.{Bool, true, false, cond}
+use mathlib.Core.Bool.{Bool, true, false}
 use mathlib.Core.List.{List, [], _∷_}
 use Prim.Native.Nat.{ℕ, zero, suc, _+_, _-_, _<_, _≤_}
 use native.Mathlib.Omega.{arith}
@@ -13,10 +13,10 @@ use Rattle.lexer.specs.Digits.{digitOf, isDigit, beyond}
 use Rattle.lexer.specs.Float.{floatValue}
 use Rattle.lexer.specs.Layout.{layoutEnd}
 use Rattle.lexer.specs.Look.{peek, lookahead}
-use Rattle.lexer.specs.Name.{runStop, runEnd, alphanumerics, graphics, runToken, variableToken, nameToken}
+use Rattle.lexer.specs.Name.{runEnd, alphanumerics, graphics, runToken, nameToken}
 use Rattle.lexer.specs.Number.{numberToken}
 use Rattle.lexer.specs.Quoted.{Quoted, decode}
-use Rattle.lexer.specs.Token.{mark, barTo, barToken, pointTo, endToken, soloTo, soloToken, floated, valued, numbered, sourced, plainToken, Text, Lexeme, lexeme, refused, token, plainLexeme, quotedTo, quotedLexeme, lexemeTo, afterLayout, behindLayout, lexemeSince, readLexeme}
+use Rattle.lexer.specs.Token.{mark, barTo, pointTo, soloTo, floated, valued, numbered, sourced, plainToken, Text, Lexeme, lexeme, refused, plainLexeme, quotedTo, quotedLexeme, lexemeTo, afterLayout, behindLayout, lexemeSince, readLexeme}
 use Rattle.lexer.specs.declared.chars.Peek.{Peek}
 use Rattle.lexer.specs.declared.chars.Look.{Look}
 use Rattle.lexer.specs.declared.cursor.Scan.{Scan}
@@ -36,7 +36,7 @@ use Rattle.lexer.proofs.Looks.{Seen, inside-or-not, peek-byte, look-byt
 use Rattle.lexer.proofs.Numbers.{EndsOf, number-ends}
 use Rattle.lexer.proofs.QuotedItems.{decode-ends}
 use Rattle.lexer.proofs.Sources.{sourced-ends}
-use Rattle.lexer.proofs.Spans.{by-test, not-newline, Span, Plain as OneLine, plain-char, plain-on, plain-step}
+use Rattle.lexer.proofs.Spans.{by-test, not-newline, Plain as OneLine, plain-char, plain-step}
 use Rattle.lexer.proofs.Steps.{drop-at, drop-end}
 
 -- ---- classes

@@ -2,7 +2,7 @@
 use Prim.Native.Nat.{ℕ, _+_, _-_, _<_, _≤_}
 use mathlib.Core.Path.{_≡_}
 use mathlib.Core.Bool.{Bool, true, false, cond}
-use mathlib.Core.List.{List, []}
+use mathlib.Core.List.{List}
 use lib.Dec.{eqb, ltb}
 use lib.ListN.{length, getD}
 use Rattle.lexer.specs.Chars.{classOf, is, within, smallLetter, capitalLetter, underscoreChar, decimalDigit, layoutChar, soloChar, quoteChar, newline, doubleQuote, percent, singleQuote, openParen, closeParen, comma, point, openBracket, closeBracket, openBrace, closeBrace, bar}
