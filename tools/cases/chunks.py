@@ -177,7 +177,8 @@ class Asking:
                 if size > BATCH_BYTES:
                     self.learn(batch)
                     batch, size = [], 0
-        self.learn(batch)
+        if batch:
+            self.learn(batch)
         return [self.known[question] for question in questions]
 
     def learn(self, batch):

@@ -31,36 +31,32 @@ fn layout_start(answers: &mut [Answer], at: usize, change: impl FnOnce(&mut usiz
     }
 }
 
-fn layout_text(answers: &mut [Answer], at: usize, change: impl FnOnce(&mut LayoutText)) -> bool {
-    match &mut answers[at] {
-        Answer::Layout(text) if text.kind != LayoutKind::Absent => {
-            change(text);
-            true
-        }
-        _ => false,
+fn layout_text_at(answers: &[Answer], at: usize) -> Option<LayoutText> {
+    match answers.get(at)? {
+        Answer::Layout(text) if text.kind != LayoutKind::Absent => Some(*text),
+        _ => None,
     }
+}
+
+fn layout_text(answers: &mut [Answer], at: usize, change: impl FnOnce(&mut LayoutText)) -> bool {
+    let Some(mut text) = layout_text_at(answers, at) else { return false };
+    change(&mut text);
+    answers[at] = Answer::Layout(text);
+    true
 }
 
 /// Puts an answer in the place of a layout text and of all behind it.
 fn instead_of_layout_text(answers: &mut Vec<Answer>, at: usize, make: impl FnOnce(LayoutText) -> Answer) -> bool {
-    let Answer::Layout(text) = answers[at] else { return false };
-    let is_text = text.kind != LayoutKind::Absent;
-    if is_text {
-        answers.truncate(at);
-        answers.push(make(text));
-    }
-    is_text
+    let Some(text) = layout_text_at(answers, at) else { return false };
+    answers.truncate(at);
+    answers.push(make(text));
+    true
 }
 
 fn joined_layout_texts(answers: &mut Vec<Answer>, at: usize) -> bool {
-    match answers.get(at + 1) {
-        Some(Answer::Layout(LayoutText { kind, next, .. })) if *kind != LayoutKind::Absent => {
-            let behind = *next;
-            answers.remove(at + 1);
-            layout_text(answers, at, |text| text.next = behind)
-        }
-        _ => false,
-    }
+    let Some(second) = layout_text_at(answers, at + 1) else { return false };
+    answers.remove(at + 1);
+    layout_text(answers, at, |text| text.next = second.next)
 }
 
 /// Of the layout call, which is known by a layout text before.
@@ -214,12 +210,7 @@ const FAULTS: [(&str, Noticed, Fault); 40] = [
     ("layout text: refused", ByTheRust, |a, i| {
         instead_of_layout_text(a, i, |text| Answer::Refused { number: 1, at: text.start, back: text.next, scratch: Vec::new() })
     }),
-    ("layout text: left out", ByTheRust, |a, i| {
-        layout_text(a, i, |_| ()) && {
-            a.remove(i);
-            true
-        }
-    }),
+    ("layout text: left out", ByTheRust, |a, i| layout_text_at(a, i).map(|_| a.remove(i)).is_some()),
     ("two layout texts told as one", ByTheRust, joined_layout_texts),
     ("no layout text told for a refusal", ByTheRust, |a, i| none_for_refused(a, i)),
     ("column one too high", ByTheModel, |a, i| {
