@@ -448,8 +448,7 @@ pub(crate) fn read_token(text: &[u8], cursor: Cursor, source: Source) -> Found
     }
 }
 
-// The token, with the layout before it that began at `from`. It is put in where the token is handed out: earlier it would cost the text call a
-// tenth of its time.
+// The token, with the layout before it that began at `from`. It is put in where the token is handed out, as in the definition.
 pub(crate) fn token_since(token: Token, from: usize) -> Token
     ensures { λ r. ⌜ r ≡ tokenSince from token ⌝ }
 {
