@@ -13,7 +13,7 @@ use lexer::{Cursor, Fault, Refusal, Token, is_valid};
 const LONGEST: usize = 65535;
 
 // The text goes on; the sender has said that it has ended; refused, which each further call repeats.
-#[derive(Drop)]
+#[derive(Clone, Copy)]
 pub enum Phase {
     Open,
     Ended,
@@ -22,7 +22,7 @@ pub enum Phase {
 
 // Where a reading stands between two calls. `window[from..to]` are the bytes at hand, delivered and not yet read, and the cursor is that of the first of
 // them. `layout` is where the layout since the last token began: the cursor's own offset where none was passed.
-#[derive(Drop)]
+#[derive(Clone, Copy)]
 pub struct Reader {
     pub mode: Mode,
     pub cursor: Cursor,
@@ -33,7 +33,7 @@ pub struct Reader {
 }
 
 // What a call gives: a token, whose span ends where `next` stands; nothing yet; a refusal.
-#[derive(Drop)]
+#[derive(Clone, Copy)]
 pub enum Given {
     Token { token: Token, next: Cursor },
     More,
@@ -41,7 +41,7 @@ pub enum Given {
 }
 
 // The reader for the next call, how many bytes of the chunk were taken, and what they gave.
-#[derive(Drop)]
+#[derive(Clone, Copy)]
 pub struct Fed {
     pub reader: Reader,
     pub taken: usize,
@@ -240,7 +240,7 @@ fn offer(reader: Reader, window: &mut [u8; WINDOW], chunk: &[u8], ended: bool) -
 }
 
 // Whether bytes can be read, behind the end or not.
-#[derive(Drop)]
+#[derive(Clone, Copy)]
 enum Stage {
     Reads(bool),
     Refused(Fault),

@@ -18,7 +18,7 @@ use crate::verdict::{Judgement, LONGEST_TOKEN, came_to, judge, settled_by};
 use lexer::{Answer, Cursor, Fault, Refusal, Source, Token, next_token};
 
 // The next token with the cursor behind it; where the reading stands, if more must be known; its refusal.
-#[derive(Drop)]
+#[derive(Clone, Copy)]
 pub enum Next {
     Token {
         token: Token,

@@ -7,7 +7,7 @@ ghost use Rattle.chunks.specs.declared.layout.Mode.TheVariants.{Blank, Line, Ins
 use lexer::{Fault, Refusal, is_foreign, is_layout};
 
 // Where a reading stands: between layout texts; in a `%` comment; in the bracketed comment whose slash is at that offset.
-#[derive(Drop)]
+#[derive(Clone, Copy)]
 pub enum Mode {
     Blank,
     Line,
@@ -15,7 +15,7 @@ pub enum Mode {
 }
 
 // What the bytes at hand come to: one is passed, and so many more are to be; a token starts; more must be known, and where the text ends it is refused so; refused.
-#[derive(Drop)]
+#[derive(Clone, Copy)]
 pub enum Turn {
     On { mode: Mode, more: usize },
     Start,

@@ -8,7 +8,7 @@ use crate::layout::{Mode, Turn, at_end, turn_ahead};
 use lexer::{Cursor, Fault, skip_char, stretch_end};
 
 // Why it stops: a token starts; more must be known, and where the text ends it is refused so; refused.
-#[derive(Drop)]
+#[derive(Clone, Copy)]
 pub enum Why {
     Starts,
     Waits(Fault),
@@ -16,7 +16,7 @@ pub enum Why {
 }
 
 // Where it stops: the bytes up to the cursor are passed.
-#[derive(Drop)]
+#[derive(Clone, Copy)]
 pub struct Place {
     pub mode: Mode,
     pub cursor: Cursor,

@@ -150,7 +150,7 @@ fn view_number(shown: &[u8], places: usize, ended: bool) -> usize
 }
 
 // What is to be said of the token at hand: it, with the cursor behind it from its own start; its refusal; it is too long; more must be known.
-#[derive(Drop)]
+#[derive(Clone, Copy)]
 pub enum Judgement {
     Token { token: Token, next: Cursor },
     Refused(Fault),

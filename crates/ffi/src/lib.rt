@@ -1,6 +1,8 @@
 // The C interface: the calls of `lexer` and `reader` over numbers, byte slices and lent arrays of fixed layout. `include/thrinvage.h` documents each
 // function, each field and each number for those who call it. Nothing is asked of the caller: each contract ties a function to the call it is named after.
 // The token call is in `ffi_token`, the clause call in `ffi_clause`.
+#![tactic(auto)]
+
 ghost use Rattle.std.specs.Prelude.{◌≡◌};
 ghost use Rattle.lexer.specs.Text.{next_token_text};
 ghost use Rattle.fields.specs.Fields.{cursor_at, leaves};

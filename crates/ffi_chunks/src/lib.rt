@@ -1,5 +1,7 @@
 // The calls of the C interface for a text that comes in chunks. They stand in a crate of their own, and so in an LLVM module of their own: a program that
 // is handed whole texts does not link them.
+#![tactic(auto)]
+
 mod state;
 
 ghost use Rattle.std.specs.Prelude.{◌≡◌};

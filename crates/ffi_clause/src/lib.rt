@@ -1,5 +1,7 @@
 // The clause call of the C interface. It stands in a crate of its own, and so in an LLVM module of its own, as the token call does in `ffi_token`: the
 // tokenizer is inlined into the loop over a clause's tokens.
+#![tactic(auto)]
+
 ghost use Rattle.std.specs.Prelude.{◌≡◌};
 ghost use Rattle.fields.specs.Fields.{cursor_at, leaves};
 ghost use Rattle.ffi_clause.specs.Clauses.{clause_leaves, ClauseLeft};

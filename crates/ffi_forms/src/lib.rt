@@ -1,5 +1,7 @@
 // The calls of `pack` in the C interface that know form 2: packing in it, the reader of both forms, the moves between them. A name of form 1 keeps its meaning: who
 // speaks that alone goes on with `ffi_pack`, and links nothing of this module.
+#![tactic(auto)]
+
 ghost use Rattle.std.specs.Prelude.{◌≡◌};
 ghost use Rattle.std.proofs.lemmas.List.Edits.{sets};
 ghost use Rattle.fields.specs.Fields.{cursor_at, leaves};

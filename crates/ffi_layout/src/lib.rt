@@ -1,4 +1,6 @@
 // The layout call of the C interface. It stands in a crate of its own, and so in an LLVM module of its own: a program that colours nothing does not link it.
+#![tactic(auto)]
+
 ghost use Rattle.std.specs.Prelude.{◌≡◌};
 ghost use Rattle.lexer.specs.LayoutCall.{next_layout};
 ghost use Rattle.fields.specs.Fields.{cursor_at, leaves, layout_leaves};

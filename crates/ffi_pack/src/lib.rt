@@ -1,5 +1,7 @@
 // The calls of `pack` in the C interface, of form 1. They stand in a crate of their own, and so in an LLVM module of their own: a program that packs nothing does
 // not link them, and one that speaks form 1 alone links nothing of form 2, which is in `ffi_forms`.
+#![tactic(auto)]
+
 ghost use Rattle.std.specs.Prelude.{◌≡◌};
 ghost use Rattle.fields.specs.Fields.{cursor_at, leaves};
 ghost use Rattle.fields_pack.specs.Told.{ClausePackLeft, PackNodesLeft};

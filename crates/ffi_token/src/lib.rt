@@ -1,5 +1,7 @@
 // The token call of the C interface. It stands in a crate of its own, and so in an LLVM module of its own: called from one place, the tokenizer is inlined
 // into it, and no answer goes through memory on the way. `ffi` has the other calls.
+#![tactic(auto)]
+
 ghost use Rattle.std.specs.Prelude.{◌≡◌};
 ghost use Rattle.lexer.specs.Token.{next_token};
 ghost use Rattle.fields.specs.Fields.{cursor_at, leaves, source_of, answer_leaves};

@@ -1,6 +1,8 @@
 // The fields of a token, of a token with its text, of a layout text and of a clause, in the order of the structs of `include/thrinvage.h`, for the crates
 // that make up the C interface. Those of a refusal are left as they were, but for its offset. What is public takes an array whose length is in its type and
 // asks for nothing; the private functions serve all lengths, and ask for the room.
+#![tactic(auto)]
+
 ghost use Rattle.std.specs.Prelude.{◌≡◌};
 ghost use Rattle.std.proofs.lemmas.List.Edits.{sets};
 ghost use Rattle.lexer.specs.Refusal.{number_of};

@@ -1,5 +1,7 @@
 // What the pack functions of the C interface tell, for the crates that have them: `ffi_pack`, of form 1, and `ffi_forms`. The clause functions tell as that of
 // `ffi_clause` does; the others tell one number, and a refusal of theirs points at nothing.
+#![tactic(auto)]
+
 ghost use Rattle.std.specs.Prelude.{◌≡◌};
 ghost use Rattle.fields.specs.Fields.{leaves};
 ghost use Rattle.fields_pack.specs.Told.{numbered, clause_pack_leaves, pack_leaves};

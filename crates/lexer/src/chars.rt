@@ -6,7 +6,7 @@ use crate::classes::is_foreign;
 use crate::refusal::{Fault, Refusal};
 
 // What stands at an offset.
-#[derive(Drop)]
+#[derive(Clone, Copy)]
 pub enum Peek {
     Byte(u8),
     Foreign,
@@ -27,7 +27,7 @@ pub(crate) fn peek_char(text: &[u8], at: usize) -> Peek
 }
 
 // The character that a rule needs, or why it is refused.
-#[derive(Drop)]
+#[derive(Clone, Copy)]
 pub enum Look {
     Byte(u8),
     Refused(Fault),

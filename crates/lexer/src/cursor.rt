@@ -4,7 +4,7 @@ ghost use Rattle.lexer.specs.Cursor.{step, along, valid, Movable, Along};
 
 use crate::refusal::Fault;
 
-#[derive(Drop)]
+#[derive(Clone, Copy)]
 pub struct Cursor {
     pub offset: usize,
     pub line: usize,
@@ -12,14 +12,14 @@ pub struct Cursor {
 }
 
 // Where a scan stops, as an offset.
-#[derive(Drop)]
+#[derive(Clone, Copy)]
 pub enum Scan {
     Stop(usize),
     Refused(Fault),
 }
 
 // The same, as a cursor.
-#[derive(Drop)]
+#[derive(Clone, Copy)]
 pub enum Moved {
     To(Cursor),
     Refused(Fault),

@@ -3,7 +3,7 @@ ghost use Rattle.std.specs.Prelude.{◌≡◌, ◌+◌, ◌*◌, ◌≤◌, min}
 ghost use Rattle.lexer.specs.Digits.{digit_of, digits_at, beyond, held, Based};
 
 // What a run of digits stands for, and where it ends.
-#[derive(Drop)]
+#[derive(Clone, Copy)]
 pub struct Digits {
     pub value: u64,
     pub end: usize,

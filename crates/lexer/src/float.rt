@@ -36,7 +36,7 @@ const TENS: [f64; 23] = [
 ];
 
 // A value, or out of limit.
-#[derive(Drop)]
+#[derive(Clone, Copy)]
 pub enum Floated {
     Value(f64),
     Beyond,

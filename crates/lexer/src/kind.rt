@@ -1,7 +1,7 @@
 // What a token is.
 use crate::refusal::Fault;
 
-#[derive(Drop)]
+#[derive(Clone, Copy)]
 pub enum Kind {
     Name,
     Variable,
@@ -20,7 +20,7 @@ pub enum Kind {
     End,
 }
 
-#[derive(Drop)]
+#[derive(Clone, Copy)]
 pub enum Value {
     Integer(u64),
     Float(f64),
@@ -28,7 +28,7 @@ pub enum Value {
 }
 
 // A token that is not quoted, without its place.
-#[derive(Drop)]
+#[derive(Clone, Copy)]
 pub enum Plain {
     Whole {
         kind: Kind,

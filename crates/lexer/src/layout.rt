@@ -110,7 +110,7 @@ fn bracketed_comment(text: &[u8], cursor: Cursor) -> Moved
 }
 
 // What stands at a cursor: layout, up to the cursor behind it, or none.
-#[derive(Drop)]
+#[derive(Clone, Copy)]
 pub enum Layout {
     To(Cursor),
     Absent,

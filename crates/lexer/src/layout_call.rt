@@ -13,7 +13,7 @@ use crate::refusal::Fault;
 use crate::token::not_valid;
 
 // What a layout text is: layout characters, in a run; a `%` comment; a bracketed comment.
-#[derive(Drop)]
+#[derive(Clone, Copy)]
 pub enum LayoutKind {
     Blanks,
     SingleLine,
@@ -21,7 +21,7 @@ pub enum LayoutKind {
 }
 
 // A layout text, whose span ends where the cursor behind it stands; none; a refusal.
-#[derive(Drop)]
+#[derive(Clone, Copy)]
 pub enum LayoutAnswer {
     Read {
         kind: LayoutKind,

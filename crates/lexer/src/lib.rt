@@ -1,4 +1,6 @@
 // The tokenizer: a port of src/parser/lexer.rs of scryer-prolog. Each module stands beside its part of that file.
+#![tactic(auto)]
+
 mod chars;
 mod classes;
 mod cursor;

@@ -14,7 +14,7 @@ use crate::refusal::{Fault, Refusal};
 
 // What a number's digits say: an integer; or all digits of a float, whether its exponent has a minus, the exponent, and how many digits are the
 // fraction's.
-#[derive(Drop)]
+#[derive(Clone, Copy)]
 pub enum Numeral {
     Integer(u64),
     Float {
@@ -26,7 +26,7 @@ pub enum Numeral {
 }
 
 // A number that is whole, or one that reaches the end of the text.
-#[derive(Drop)]
+#[derive(Clone, Copy)]
 pub enum NumberToken {
     Whole { numeral: Numeral, end: usize },
     Partial { numeral: Numeral, end: usize },
@@ -34,7 +34,7 @@ pub enum NumberToken {
 }
 
 // A float's exponent: none; none, with the end of the text; one that is whole, or that reaches the end of the text.
-#[derive(Drop)]
+#[derive(Clone, Copy)]
 pub enum Exponent {
     Absent,
     Ended,

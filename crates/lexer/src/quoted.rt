@@ -16,7 +16,7 @@ use crate::refusal::{Fault, Refusal};
 use crate::stretch::stretch_end;
 
 // One item of a quoted token, with the offset behind it.
-#[derive(Drop)]
+#[derive(Clone, Copy)]
 pub enum Item {
     Char { code: u8, next: usize },
     Beyond { next: usize },
@@ -188,7 +188,7 @@ pub(crate) fn quoted_item(text: &[u8], at: usize, quote: u8, token: usize) -> It
 }
 
 // How many bytes a quoted token stands for, and the cursor behind it.
-#[derive(Drop)]
+#[derive(Clone, Copy)]
 pub enum Measure {
     Whole { length: usize, next: Cursor },
     Refused(Fault),

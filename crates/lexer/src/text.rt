@@ -12,13 +12,13 @@ use crate::refusal::{Fault, Refusal};
 use crate::token::{Found, Source, Spelling, Token, not_valid, read_token, token_since};
 
 // A part of the source text, or of the scratch.
-#[derive(Drop)]
+#[derive(Clone, Copy)]
 pub enum Part {
     Source { start: usize, end: usize },
     Scratch { start: usize, end: usize },
 }
 
-#[derive(Drop)]
+#[derive(Clone, Copy)]
 pub enum TextAnswer {
     Read {
         token: Token,
@@ -32,7 +32,7 @@ pub enum TextAnswer {
 }
 
 // How many bytes the quoted-text call wrote, or why none.
-#[derive(Drop)]
+#[derive(Clone, Copy)]
 pub enum QuotedAnswer {
     Read { length: usize },
     Refused { fault: Fault },

@@ -29,7 +29,7 @@ use crate::quoted::{Measure, measure_quoted};
 use crate::refusal::{Fault, Refusal};
 
 // A token, whose span ends where the cursor behind it stands. The layout before it, perhaps none, began at `layout`.
-#[derive(Drop)]
+#[derive(Clone, Copy)]
 pub struct Token {
     pub kind: Kind,
     pub value: Value,
@@ -38,20 +38,20 @@ pub struct Token {
 }
 
 // What the text is: a file, or what was typed into a field, where a number may reach the end.
-#[derive(Drop)]
+#[derive(Clone, Copy)]
 pub enum Source {
     File,
     Field,
 }
 
-#[derive(Drop)]
+#[derive(Clone, Copy)]
 pub enum Answer {
     Read { token: Token, next: Cursor },
     Refused { fault: Fault, cursor: Cursor },
 }
 
 // What a single character is by itself.
-#[derive(Drop)]
+#[derive(Clone, Copy)]
 pub enum Mark {
     Is(Kind),
     Other,
@@ -267,7 +267,7 @@ fn plain_read(text: &[u8], at: usize, layout: bool, source: Source, b: u8) -> Pl
 }
 
 // What a token's text is: its own bytes, so many decoded ones, or none.
-#[derive(Drop)]
+#[derive(Clone, Copy)]
 pub enum Spelling {
     Source,
     Decoded(usize),
@@ -276,7 +276,7 @@ pub enum Spelling {
 
 // A token with its spelling and the cursor behind it. The cursor's fields stand apart: side by side the processor would
 // be made to load two at once that were stored one by one, and wait until they have reached the cache.
-#[derive(Drop)]
+#[derive(Clone, Copy)]
 pub enum Found {
     Whole {
         offset: usize,

@@ -1,5 +1,7 @@
 // Lists the clauses on standard input, a line each, up to the first refusal, which is the last line. What is proved: the program is safe and ends, each
 // line is the line call's, and the refusal that it ends with is none for room; no contract can say what is read or written.
+#![tactic(auto)]
+
 ghost use Rattle.std.specs.Prelude.{◌<◌, length};
 ghost use Rattle.lexer.specs.Cursor.{start_cursor};
 ghost use Rattle.reader.specs.LineCall.{longest_line};

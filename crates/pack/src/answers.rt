@@ -3,21 +3,21 @@ use crate::format::Form;
 use lexer::{Cursor, Fault, Refusal};
 
 // The image's length.
-#[derive(Drop)]
+#[derive(Clone, Copy)]
 pub enum PackAnswer {
     Packed(usize),
     Refused(Fault),
 }
 
 // The pack's form, and the count of nodes.
-#[derive(Drop)]
+#[derive(Clone, Copy)]
 pub enum UnpackAnswer {
     Nodes { form: Form, count: usize },
     Refused(Fault),
 }
 
 // The image's length, and the cursor after the clause's mark.
-#[derive(Drop)]
+#[derive(Clone, Copy)]
 pub enum ClausePackAnswer {
     Packed { length: usize, next: Cursor },
     Refused { fault: Fault, cursor: Cursor },

@@ -4,14 +4,14 @@ ghost use Rattle.pack.specs.Calls.{begins};
 ghost use Rattle.pack.specs.Passes.{version_byte, line_size};
 
 // The form of a pack. Form 2 says too on which line the clause stood: the line of its first token plus one, or 0 for not known.
-#[derive(Drop)]
+#[derive(Clone, Copy)]
 pub enum Form {
     One,
     Two(u16),
 }
 
 // The same without the line.
-#[derive(Drop)]
+#[derive(Clone, Copy)]
 pub enum Version {
     One,
     Two,

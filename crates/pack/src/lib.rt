@@ -1,4 +1,6 @@
 // Packs: a clause in a radio message, and back. It stands above the tokenizer and the clause reader.
+#![tactic(auto)]
+
 mod answers;
 mod clause_call;
 mod format;

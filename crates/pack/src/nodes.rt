@@ -6,7 +6,7 @@ ghost use Rattle.pack.specs.Passes.{Inside, GivenAt, four, PutGiven};
 use crate::widths::{of_number, to_number};
 
 // A node by its numbers; its spelling is a part of some bytes.
-#[derive(Drop)]
+#[derive(Clone, Copy)]
 pub struct Given {
     pub kind: usize,
     pub arity: usize,

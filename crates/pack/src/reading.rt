@@ -15,7 +15,7 @@ use crate::widths::{of_byte, to_half};
 use lexer::Fault;
 
 // What stands before a node's spelling.
-#[derive(Drop)]
+#[derive(Clone, Copy)]
 pub struct Head {
     pub kind: usize,
     pub arity: usize,
@@ -23,14 +23,14 @@ pub struct Head {
 }
 
 // The node count of a pack.
-#[derive(Drop)]
+#[derive(Clone, Copy)]
 pub enum Counted {
     Nodes(usize),
     NoNodes,
 }
 
 // A pack of the form and the count of nodes, or why it is none.
-#[derive(Drop)]
+#[derive(Clone, Copy)]
 pub enum Judged {
     Pack { form: Form, count: usize },
     Refused(Fault),

@@ -16,7 +16,7 @@ use crate::nodes::{Given, given_at};
 use crate::widths::{of_half, to_byte};
 
 // How many bytes the nodes take in an image, or they are no tree that unpacking would accept.
-#[derive(Drop)]
+#[derive(Clone, Copy)]
 pub enum Weighed {
     Bytes(usize),
     NoTree,

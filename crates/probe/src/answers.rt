@@ -242,7 +242,7 @@ fn clause_lines(out: &mut [u8], filled: usize, answer: ClauseAnswer, tree: &[u16
 }
 
 // What one clause call answered, and how far the output buffer is filled.
-#[derive(Drop)]
+#[derive(Clone, Copy)]
 pub struct ClauseCase {
     pub answer: ClauseAnswer,
     pub filled: usize,

@@ -18,7 +18,7 @@ const END: usize = usize::MAX;
 // More calls than a chunk gets: each but the last takes a byte or hands out a token, and a text has less than 65,536 of either.
 const MOST_CALLS: usize = 2 * 65536;
 
-#[derive(Drop)]
+#[derive(Clone, Copy)]
 pub enum Item {
     Chunk(usize),
     End,
@@ -26,7 +26,7 @@ pub enum Item {
 }
 
 // The steps so far: how many, how many bytes of the text they leave, whether the end is among them. Not formed, if the line is none of cuts.
-#[derive(Drop)]
+#[derive(Clone, Copy)]
 pub struct Steps {
     pub count: usize,
     pub left: usize,
@@ -35,7 +35,7 @@ pub struct Steps {
 }
 
 // The reader behind a step, how far the output buffer is filled, and whether the reader has refused.
-#[derive(Drop)]
+#[derive(Clone, Copy)]
 pub struct Delivery {
     pub reader: Reader,
     pub filled: usize,
@@ -43,7 +43,7 @@ pub struct Delivery {
 }
 
 // What one call came to: the same, how many bytes of the chunk it took, and whether it is the last call for this chunk.
-#[derive(Drop)]
+#[derive(Clone, Copy)]
 pub struct Turn {
     pub reader: Reader,
     pub taken: usize,

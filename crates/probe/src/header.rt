@@ -8,7 +8,7 @@ const MOST_DIGITS: usize = 20;
 // The letter of the call, five numbers with a space before each, the newline.
 pub const LARGEST_HEADER: usize = 1 + 5 * (1 + MOST_DIGITS) + 1;
 
-#[derive(Drop)]
+#[derive(Clone, Copy)]
 pub enum Header {
     Case {
         call: u8,
@@ -22,20 +22,20 @@ pub enum Header {
 }
 
 // A number, and the offset behind the byte that ends it.
-#[derive(Drop)]
+#[derive(Clone, Copy)]
 pub enum Field {
     Number { value: usize, next: usize },
     Malformed,
 }
 
-#[derive(Drop)]
+#[derive(Clone, Copy)]
 pub enum CursorFields {
     At { cursor: Cursor, next: usize },
     Malformed,
 }
 
 // A number with one digit more.
-#[derive(Drop)]
+#[derive(Clone, Copy)]
 pub enum Grown {
     To(usize),
     NoDigit,

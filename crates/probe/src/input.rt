@@ -8,7 +8,7 @@ use libc::STDIN_FILENO;
 pub const INPUT: usize = 262144;
 
 // The bytes from `start` to `end` are read and not yet used; `ended` where no more come. A read that fails ends the input too.
-#[derive(Drop)]
+#[derive(Clone, Copy)]
 pub struct Window {
     pub start: usize,
     pub end: usize,

@@ -1,5 +1,7 @@
 // Answers the cases on standard input, one after another, in the format of docs/PROBE.md. A case that is
 // malformed gets the line `malformed` and is the last. What is proved: the program is safe and ends; no contract can say what is read or written.
+#![tactic(auto)]
+
 mod answers;
 mod deliveries;
 mod header;
@@ -23,7 +25,7 @@ const LARGEST_LENGTH: usize = 70000;
 const LARGEST_CASE: usize = LARGEST_HEADER + LARGEST_LENGTH + 1;
 
 // How many bytes of input a case took (none, if it is malformed), and how far the output buffer is filled.
-#[derive(Drop)]
+#[derive(Clone, Copy)]
 pub struct Answered {
     pub taken: usize,
     pub filled: usize,

@@ -7,7 +7,7 @@ use libc::STDOUT_FILENO;
 pub const OUTPUT: usize = 65536;
 
 // What a case gave: how far the buffer is filled now; or it is malformed, and nothing was put.
-#[derive(Drop)]
+#[derive(Clone, Copy)]
 pub enum Told {
     Filled(usize),
     Malformed,

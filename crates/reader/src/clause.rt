@@ -21,7 +21,7 @@ use lexer::{
     is_valid, next_token, quoted_text,
 };
 
-#[derive(Drop)]
+#[derive(Clone, Copy)]
 pub enum ClauseAnswer {
     Read { nodes: usize, next: Cursor },
     Refused { fault: Fault, cursor: Cursor },
@@ -148,7 +148,7 @@ fn last_alive(mode: Mode, latest: usize, at: usize) -> usize
 }
 
 // The machine behind the end mark of a clause, or behind so many tokens of it, with the last token that it took alive.
-#[derive(Drop)]
+#[derive(Clone, Copy)]
 pub enum Machined {
     Whole {
         latest: usize,
@@ -244,7 +244,7 @@ pub(crate) fn first_offset(text: &[u8], cursor: Cursor) -> usize
 }
 
 // What a clause comes to. AtFirst: a refusal that points at its first token.
-#[derive(Drop)]
+#[derive(Clone, Copy)]
 pub enum Verdict {
     Read { nodes: usize, next: Cursor },
     Refused(Fault),

@@ -1,4 +1,6 @@
 // The clause reader: tokens to an end mark, read by the grammar of document 01. It stands above the tokenizer and relies on its promises alone.
+#![tactic(auto)]
+
 mod clause;
 mod kinds;
 mod line_call;

@@ -7,7 +7,7 @@ use crate::clause::{ClauseAnswer, first_offset, is_end, read_clause};
 use crate::listing::{Listed, list_line};
 use lexer::{Answer, Cursor, Fault, Refusal, Source, next_token};
 
-#[derive(Drop)]
+#[derive(Clone, Copy)]
 pub enum LineAnswer {
     Read { length: usize, next: Cursor },
     Refused { fault: Fault, cursor: Cursor },

@@ -8,7 +8,7 @@ use crate::kinds::{
 };
 
 // How a node is printed.
-#[derive(Drop)]
+#[derive(Clone, Copy)]
 pub enum Shape {
     Word,
     Negative,
@@ -19,14 +19,14 @@ pub enum Shape {
 }
 
 // What is left before a term: nodes of the tree, and bytes of the line.
-#[derive(Drop)]
+#[derive(Clone, Copy)]
 pub struct Before {
     pub nodes: usize,
     pub at: usize,
 }
 
 // A node: its token, how it is printed, and how many children it has.
-#[derive(Drop)]
+#[derive(Clone, Copy)]
 pub struct Root {
     pub token: usize,
     pub shape: Shape,
@@ -34,7 +34,7 @@ pub struct Root {
 }
 
 // The bytes of the line, or it is longer than the slice.
-#[derive(Drop)]
+#[derive(Clone, Copy)]
 pub enum Listed {
     Line(usize),
     NoRoom,

@@ -11,14 +11,14 @@ ghost use Rattle.reader.specs.Layout.{tag_of, index_of, prio_of, bound_of, infix
 use crate::roles::{Infix, Prefix};
 
 // How many words of each slice are in use.
-#[derive(Drop)]
+#[derive(Clone, Copy)]
 pub struct Spot {
     pub depth: usize,
     pub count: usize,
 }
 
 // What neither starts a term nor is a name.
-#[derive(Drop)]
+#[derive(Clone, Copy)]
 pub enum Stop {
     Close,
     CloseList,
@@ -30,7 +30,7 @@ pub enum Stop {
 }
 
 // What is seen of a token. Number: has it the lowest integer's magnitude. Round: is it OpenCT.
-#[derive(Drop)]
+#[derive(Clone, Copy)]
 pub enum Sight {
     Name {
         end: usize,
@@ -50,21 +50,21 @@ pub enum Sight {
 }
 
 // Is a token a stop, and which?
-#[derive(Drop)]
+#[derive(Clone, Copy)]
 pub enum Halt {
     Goes,
     Stopped(Stop),
 }
 
 // `[` or `{`
-#[derive(Drop)]
+#[derive(Clone, Copy)]
 pub enum Shape {
     Squares,
     Braces,
 }
 
 // A name whose role is open.
-#[derive(Drop)]
+#[derive(Clone, Copy)]
 pub struct Pending {
     pub index: u16,
     pub end: usize,
@@ -74,7 +74,7 @@ pub struct Pending {
 }
 
 // The machine's states, without its stacks.
-#[derive(Drop)]
+#[derive(Clone, Copy)]
 pub enum Mode {
     Want(Spot),
     Pend(Spot, Pending),

@@ -15,7 +15,7 @@ pub(crate) const FX: u8 = 4;
 
 // An operator: the bytes of its name, spaces after a shorter one; its kind; its priority. In this order it has no gaps, and the compiler, which builds the
 // table anew at each use, puts several of these into one store.
-#[derive(Drop)]
+#[derive(Clone, Copy)]
 pub struct Operator(pub u8, pub u8, pub u8, pub u8, pub u16);
 
 pub(crate) fn entry(place: usize) -> Operator

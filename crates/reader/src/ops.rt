@@ -9,7 +9,7 @@ use crate::operators::{FX, FY, Operator, XFX, XFY, entry};
 use crate::roles::{Infix, NO_ROLES, Prefix, Roles};
 
 // The bytes of a name of one to three, spaces after a shorter one.
-#[derive(Drop)]
+#[derive(Clone, Copy)]
 pub struct ShortName {
     pub first: u8,
     pub second: u8,

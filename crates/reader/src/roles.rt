@@ -1,12 +1,12 @@
 // What a name may be to its neighbours: its roles as an operator.
-#[derive(Drop)]
+#[derive(Clone, Copy)]
 pub enum Prefix {
     Absent,
     Fx(u16),
     Fy(u16),
 }
 
-#[derive(Drop)]
+#[derive(Clone, Copy)]
 pub enum Infix {
     Absent,
     Xfx(u16),
@@ -14,7 +14,7 @@ pub enum Infix {
     Yfx(u16),
 }
 
-#[derive(Drop)]
+#[derive(Clone, Copy)]
 pub struct Roles {
     pub minus: bool,
     pub prefix: Prefix,
