@@ -504,6 +504,7 @@ module _ (s : List ℕ) (c : Cursor) where
   placed-at_inside T q o NoText p = absurd p
   placed-at_inside T q o TooLong p = absurd p
   placed-at_inside T q o NoPack p = absurd p
+  placed-at_inside T q o TokenTooLong p = absurd p
   placed-at_inside T q o UnknownVersion p = absurd p
 
   pub placed-inside : (w : Fault) → Placed s c w → w.offset ≤ length s

@@ -1,0 +1,37 @@
+-- `lexer::layout_call::layout_at` meets its contract. Assumes nothing.
+use Prim.Native.Nat.{ℕ}
+use mathlib.Core.Path.{◌≡◌, sym, ◌∙◌}
+use mathlib.Core.List.{List}
+use borrow.Author.Rules.{rules}
+use lib.ListN.{length}
+use Rattle.lexer.specs.Cursor.{Valid}
+use Rattle.lexer.specs.Layout.{layout_text, stepped}
+use Rattle.lexer.specs.LayoutCall.{Given}
+use Rattle.lexer.specs.declared.refusal.Fault.{Fault}
+use Rattle.lexer.specs.declared.cursor.Cursor.{Cursor}
+use Rattle.lexer.specs.declared.layout.Layout.{Layout}
+use Rattle.lexer.specs.declared.layout_call.LayoutAnswer.TheVariants.{Absent, Refused}
+use Rattle.lexer.proofs.LayoutCalls.{given, given-refused, given-none}
+use Rattle.lexer.proofs.layout_call.layout_at.Goals as goal
+
+-- the ways out: r is what the layout text at the cursor came to
+module _ (s : List ℕ) (c : Cursor) (r : Layout) (f : r ≡ stepped s c (layout_text s c.offset)) where
+  refused : (w : Fault) → r ≡ Layout.Refused w → Refused w c ≡ given s c
+  refused w g = sym (given-refused s c w (sym f ∙ g))
+
+  none : r ≡ Layout.Absent → Absent c ≡ given s c
+  none g = sym (given-none s c (sym f ∙ g))
+
+  there : (next : Cursor) → Valid (length s) c → r ≡ Layout.To next → Given s c next
+  there next v g = record { valid = v; text = sym f ∙ g }
+
+ruleset ways = (refused, none, there, rules)
+
+pub returns-in-Refused : goal.returns-in-Refused
+returns-in-Refused c = search ways
+
+pub returns-in-Absent : goal.returns-in-Absent
+returns-in-Absent c = search ways
+
+pub returns-in-To : goal.returns-in-To
+returns-in-To c = search ways

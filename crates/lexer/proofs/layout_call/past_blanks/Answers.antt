@@ -1,0 +1,18 @@
+use Prim.Native.Nat.{◌-◌}
+use borrow.Author.Rules.{rules}
+use Rattle.lexer.proofs.layout_call.past_blanks.Invariants.{begins, ended, can_skip, stops, on, less}
+use Rattle.lexer.proofs.layout_call.past_blanks.Goals as goal
+
+ruleset ways = (begins, ended, can_skip, stops, on, less, rules)
+
+pub loop-c-init : goal.loop-c-init
+loop-c-init c = search ways
+
+pub loop-c-preserved : goal.loop-c-preserved
+loop-c-preserved c = search ways
+
+pub returns-else-is_layout : goal.returns-else-is_layout
+returns-else-is_layout c = search ways
+
+pub returns : goal.returns
+returns c = search ways

@@ -1,0 +1,45 @@
+-- `lexer::token::answer_at` meets its contract. Assumes nothing.
+use Prim.Native.Nat.{ℕ}
+use mathlib.Core.Path.{◌≡◌, refl, sym, ◌∙◌, ap}
+use mathlib.Core.List.{List}
+use borrow.Author.Rules.{rules}
+use Rattle.lexer.specs.Token.{Lexeme, lexeme, refused, behind_layout, token_since, lexeme_since, read_lexeme, answered, found}
+use Rattle.lexer.specs.declared.refusal.Fault.{Fault}
+use Rattle.lexer.specs.declared.cursor.Cursor.{Cursor}
+use Rattle.lexer.specs.declared.token.Token.{Token}
+use Rattle.lexer.specs.declared.token.Spelling.{Spelling}
+use Rattle.lexer.specs.declared.token.Found.{Found}
+use Rattle.lexer.specs.declared.token.Answer.{Answer}
+use Rattle.lexer.specs.declared.token.Source.{Source}
+use Rattle.lexer.proofs.token.answer_at.Goals as goal
+
+-- what the call answers, by what was found
+abbrev told : Cursor → Found → Answer
+told c (Found.Whole o t l y k) = Answer.Read (token_since c.offset t) (record { offset = o; line = l; column = k })
+told c (Found.Refused w) = Answer.Refused w c
+
+module _ (s : List ℕ) (c : Cursor) where
+  -- a cursor is what its fields make
+  told-found : (x : Lexeme) → told c (found s c x) ≡ answered s c (lexeme_since c.offset x)
+  unfolding answered found lexeme_since
+  told-found (lexeme t e y) = refl
+  told-found (refused w) = refl
+
+  module _ (origin : Source) (r : Found) (f : r ≡ found s c (behind_layout origin s c.offset)) where
+    answers : (z : Found) → r ≡ z → told c z ≡ answered s c (read_lexeme origin s c.offset)
+    answers z g = ap (told c) (sym g ∙ f) ∙ told-found (behind_layout origin s c.offset)
+
+    no-token : (w : Fault) → r ≡ Found.Refused w → Answer.Refused w c ≡ answered s c (read_lexeme origin s c.offset)
+    no-token w g = answers (Found.Refused w) g
+
+    read : (o : ℕ) (t : Token) (l : ℕ) (y : Spelling) (k : ℕ) (u : Token) → r ≡ Found.Whole o t l y k → u ≡ token_since c.offset t
+        → Answer.Read u (record { offset = o; line = l; column = k }) ≡ answered s c (read_lexeme origin s c.offset)
+    read o t l y k u g h = ap (λ (x : Token). Answer.Read x (record { offset = o; line = l; column = k })) h ∙ answers (Found.Whole o t l y k) g
+
+ruleset ways = (no-token, read, rules)
+
+pub returns-in-Refused : goal.returns-in-Refused
+returns-in-Refused c = search ways
+
+pub returns-in-Whole : goal.returns-in-Whole
+returns-in-Whole c = search ways

@@ -1,0 +1,51 @@
+-- `lexer::token::number_value` meets its contract. Assumes nothing.
+use Prim.Native.Nat.{ℕ, ◌<◌, ◌≤◌}
+use mathlib.Core.Path.{◌≡◌}
+use mathlib.Core.Bool.{Bool}
+use borrow.Author.Rules.{rules}
+use borrow.Author.Tests.{lt-ltb, le-ltb}
+use lib.Ieee.{Float}
+use Rattle.lexer.specs.Digits.{beyond}
+use Rattle.lexer.specs.Float.{float_value}
+use Rattle.lexer.specs.Refusal.{fault}
+use Rattle.lexer.specs.Token.{floated, valued}
+use Rattle.lexer.specs.declared.refusal.Refusal.TheVariants.{OutOfLimit}
+use Rattle.lexer.specs.declared.float.Floated.{Floated}
+use Rattle.lexer.specs.declared.kind.Kind.{Kind}
+use Rattle.lexer.specs.declared.kind.Value.{Value}
+use Rattle.lexer.specs.declared.kind.Plain.{Plain}
+use Rattle.lexer.specs.declared.number.Numeral.{Numeral}
+use Rattle.lexer.proofs.token.number_value.Goals as goal
+
+module _ (at end : ℕ) (n : Numeral) where
+  module _ (i : ℕ) (e : n ≡ Numeral.Integer i) where
+    integer : i < beyond → Plain.Whole Kind.Number (Value.Integer i) end ≡ valued at end n
+    unfolding valued
+    integer h = cc (lt-ltb i beyond h)
+
+    too_large : (p : Plain) → beyond ≤ i → p ≡ Plain.Refused (fault OutOfLimit at) → p ≡ valued at end n
+    unfolding valued
+    too_large p h f = cc (le-ltb i beyond h)
+
+  module _ (m : ℕ) (sign : Bool) (x f : ℕ) (e : n ≡ Numeral.Float m sign x f) (r : Floated) (q : r ≡ float_value m sign x f) where
+    float : (v : Float) → r ≡ Floated.Value v → Plain.Whole Kind.Number (Value.Float v) end ≡ valued at end n
+    unfolding valued floated
+    float v g = cc
+
+    too_far : (p : Plain) → r ≡ Floated.Beyond → p ≡ Plain.Refused (fault OutOfLimit at) → p ≡ valued at end n
+    unfolding valued floated
+    too_far p g h = cc
+
+ruleset ways = (integer, too_large, float, too_far, rules)
+
+pub returns-then-n-lt-BEYOND : goal.returns-then-n-lt-BEYOND
+returns-then-n-lt-BEYOND c = search ways
+
+pub returns-else-n-lt-BEYOND : goal.returns-else-n-lt-BEYOND
+returns-else-n-lt-BEYOND c = search ways
+
+pub returns-in-Value : goal.returns-in-Value
+returns-in-Value c = search ways
+
+pub returns-in-Beyond : goal.returns-in-Beyond
+returns-in-Beyond c = search ways
