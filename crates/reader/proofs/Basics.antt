@@ -148,6 +148,7 @@ module _ (word : NodeKind → ℕ → ℕ) where
   module _ (T : Table) where
     stuck : (l : Terminal) (r : Inf) → IsInfix T l r → (fs : Frames) (out : Out) → Guard T fs → prio r < bound fs → reduce word (left_bound r) fs out ≡ red fs out
     unfolding reduce bound
+    stuck l r x [] out g h = elim g [ ]
     stuck l r x (opened br ∷ fs) out guard_bracket h = refl
     stuck l r x (waiting (op i k p b) ∷ fs) out (guard_op f) h = rw (lt?_no (f l r x h))
 

@@ -42,6 +42,7 @@ last_beside (u ◂ f) t = cc (last_beside f t)
 
 module _ {i : ℕ} {k : NodeKind} where
   in_left : (f g : Forest) → HasIn i k f → HasIn i k (beside f g)
+  in_left nil g h = elim h [ ]
   in_left (t ◂ f) g (first h) = first h
   in_left (t ◂ f) g (later h) = later (in_left f g h)
 
@@ -129,6 +130,7 @@ module _ (low : ℕ → Bool) where
       bare_over : (j : ℕ) (n : NodeKind) → HasIn j n (node i k f ◂ nil) → low j ≡ false
       bare_over j n (first root) = h
       bare_over j n (first (below x)) = v.bare j n x
+      bare_over j n (later x) = elim x [ ]
 
   -- a node at the first token
   headed : {at i : ℕ} {c : Terminal} {us rest : List Tok} {f : Forest} (k : NodeKind) → is_low c ≡ false → Told at (tok i c ∷ us) → Past (at + 1) rest f
@@ -208,6 +210,7 @@ module _ (T : Table) (ts : List Token) (t : Tree) (reads : Reads T ts t) (j : �
     where
       in_tree : Negated j (t ◂ nil) → (i : ℕ) × (i + 1 ≡ j) × Has i negative t
       in_tree (i, e, first x) = (i, e, x)
+      in_tree (i, e, later x) = elim x [ ]
 
   pub reads_bare : (n : NodeKind) → Has j n t → ⊥
   reads_bare n x = false≢true (sym (read.bare j n (first x)) ∙ low_here)

@@ -92,10 +92,10 @@ module _ (word : NodeKind → ℕ → ℕ) (T : Table) (source : List Tok) where
       Held fs ts before → Term T p ts rest t → p < bound fs → p < b → push word t before ≡ out → Reduced b rest (reduce word b fs out)
   unfolding bound reduce push arity emit
   reduced (base l) d h k e = stays (base l) d h k e
-  reduced (after_prefix {i} {p = q} s x v w y c) d h k e =
-      tested q (λ z. reduced s (a_prefix x v c d (omega arith)) y z (ap (λ (z : Out). nd i (word prefix 1) ∷ z) e)) (stays (after_prefix s x v w y c) d h k e)
-  reduced {t = u} (after_infix {i} {p = q} s c l x v w y o) d h k e =
-      tested q (λ z. reduced s (an_infix c l x v d (omega arith)) y z (ap (λ (z : Out). nd i (word infx 2) ∷ z) (ap (λ (z : Out). push word u z) o ∙ e)))
+  reduced {p = p} (after_prefix {i} {p = q} s x v w y c) d h k e =
+      tested q (λ z. reduced {p = q} s (a_prefix x v c d (omega arith)) y z (ap (λ (z : Out). nd i (word prefix 1) ∷ z) e)) (stays (after_prefix s x v w y c) d h k e)
+  reduced {p = p} {t = u} (after_infix {i} {p = q} s c l x v w y o) d h k e =
+      tested q (λ z. reduced {p = q} s (an_infix c l x v d (omega arith)) y z (ap (λ (z : Out). nd i (word infx 2) ∷ z) (ap (λ (z : Out). push word u z) o ∙ e)))
       (stays (after_infix s c l x v w y o) d h k e)
 
   -- The end of a place

@@ -1,0 +1,26 @@
+use Prim.Native.Nat.{◌-◌}
+use borrow.Author.Rules.{rules}
+use Rattle.lexer.specs.declared.token.Token as lexer
+use Rattle.reader.specs.Machine as M
+use Rattle.reader.proofs.clause.take_tokens.Invariants.{started, pauses, less, next_fits, room, stops, read_there, ends, again}
+use Rattle.reader.proofs.clause.take_tokens.Goals as goal
+
+ruleset ways = (started, pauses, less, next_fits, room, stops, read_there, ends, again, rules)
+
+pub loop-index-init : goal.loop-index-init
+loop-index-init c = search ways
+
+pub returns-in-Refused : goal.returns-in-Refused
+returns-in-Refused c = search ways
+
+pub returns-then-is_end : goal.returns-then-is_end
+returns-then-is_end c = search ways
+
+pub loop-index-preserved : goal.loop-index-preserved
+loop-index-preserved c = search ways
+
+pub returns : goal.returns
+returns c = search ways
+
+pub step-mode-requires : goal.step-mode-requires
+step-mode-requires c = search ways

@@ -1,0 +1,15 @@
+use Prim.Native.Nat.{◌-◌}
+use borrow.Author.Rules.{rules}
+use Rattle.reader.proofs.listing.put_part.Invariants.{begin, long, done, some_left, read, write, on}
+use Rattle.reader.proofs.listing.put_part.Goals as goal
+
+ruleset ways = (begin, long, done, some_left, read, write, on, rules)
+
+pub loop-i-init : goal.loop-i-init
+loop-i-init c = search ways
+
+pub loop-i-preserved : goal.loop-i-preserved
+loop-i-preserved c = search ways
+
+pub returns : goal.returns
+returns c = search ways
