@@ -7,8 +7,7 @@ use borrow.Author.Rules.{rules}
 use lib.Dec.{T}
 use lib.Ieee.{Float, nan, inf, fin, eq, is_nan, to_bits, binary64}
 use Rattle.fields.specs.Fields.{bits_of}
-use Rattle.fields.proofs.bits_of.Statement.{statement}
-use Rattle.fields.proofs.bits_of.Tie as tie
+use Rattle.fields.proofs.bits_of.Goals as goal
 
 -- what equals itself is no NaN
 no_nan : (x : Float) → eq x x ≡ true → T (not (is_nan x))
@@ -27,15 +26,8 @@ no_bits x e = cc
 
 ruleset ways = (no_nan, with_bits, no_bits, rules)
 
--- answers
-float-to-bits-result : tie.Need-float-to-bits-result
-float-to-bits-result c = search ways
+pub returns-then-x : goal.returns-then-x
+returns-then-x c = search ways
 
-returns : tie.Need-returns
+pub returns : goal.returns
 returns c = search ways
-
-returns-2 : tie.Need-returns-2
-returns-2 c = search ways
-
-pub bits_of_spec : {M : Type 1} → statement M
-bits-of-spec = tie.close (tie.spec float-to-bits-result returns returns-2)

@@ -5,8 +5,7 @@ use borrow.Author.Rules.{rules}
 use borrow.Author.Tests.{ne_eqb}
 use Rattle.lexer.specs.declared.token.Source.TheVariants.{File, Field}
 use Rattle.fields.specs.Fields.{source_of}
-use Rattle.fields.proofs.source_of.Statement.{statement}
-use Rattle.fields.proofs.source_of.Tie as tie
+use Rattle.fields.proofs.source_of.Goals as goal
 
 field : (n : ℕ) → n ≡ 1 → Field ≡ source_of n
 unfolding source_of
@@ -18,12 +17,8 @@ file n e = cc (ne_eqb n 1 e)
 
 ruleset ways = (field, file, rules)
 
--- answers
-returns : tie.Need-returns
-returns c = search ways
+pub returns-then-number-eq-FIELD : goal.returns-then-number-eq-FIELD
+returns-then-number-eq-FIELD c = search ways
 
-returns-2 : tie.Need-returns-2
-returns-2 c = search ways
-
-pub source_of_spec : {M : Type 1} → statement M
-source-of-spec = tie.close (tie.spec returns returns-2)
+pub returns-else-number-eq-FIELD : goal.returns-else-number-eq-FIELD
+returns-else-number-eq-FIELD c = search ways
