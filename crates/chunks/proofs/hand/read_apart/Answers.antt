@@ -1,0 +1,18 @@
+-- `chunks::hand::read_apart` meets its contract. Assumes nothing.
+use borrow.Author.Rules.{rules}
+use Rattle.chunks.proofs.Hands.{held-some, held-inside, held_passable, held_starts, held_starts_tells, held_waits_tells, held-stops_tells}
+use Rattle.chunks.proofs.hand.read_apart.Goals as goal
+
+ruleset ways = (held-some, held-inside, held_passable, held_starts, held_starts_tells, held_waits_tells, held-stops_tells, rules)
+
+pub returns-in-Starts : goal.returns-in-Starts
+returns-in-Starts c = search ways
+
+pub returns-in-Waits : goal.returns-in-Waits
+returns-in-Waits c = search ways
+
+pub returns-in-Stops : goal.returns-in-Stops
+returns-in-Stops c = search ways
+
+pub start_token-requires : goal.start_token-requires
+start_token-requires c = search ways
