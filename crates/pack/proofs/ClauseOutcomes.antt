@@ -121,18 +121,18 @@ clause_sent v s c d r x n e (written {ts} {e = k} {t = t} {r = a} o w) h =
 -- a clause that has a reading is packed, or 13, or 9
 module _ (f : Form) (s : List ℕ) (c : Cursor) (d : List ℕ) where
   module _ (ts : List Token) (e : Cursor) (t : Tree) (o : ClauseAt s c ts e t) where
-    written_one : {x : List ℕ} (k : Cursor) (r : PackAnswer) (us : List Token) (u : Tree) (p : ClauseAt s c us k u) → Written f (clause_nodes s us u) d r x
+    written_one : (k : Cursor) (us : List Token) (u : Tree) (p : ClauseAt s c us k u) (r : PackAnswer) {x : List ℕ} → Written f (clause_nodes s us u) d r x
         → (told c k r ≡ Packed (length (image f (clause_nodes s ts t))) e) ⊎ (told c k r ≡ Refused (fault TooLong 0) c)
         ⊎ ((told c k r ≡ Refused (fault NoRoom 0) c) × (length d < length (image f (clause_nodes s ts t))))
     unfolding told
-    written_one k r us u p (Written.too_long h) = inr (inl refl)
-    written_one k r us u p (Written.no_room h l) = inr (inr (refl, omega (arith, ap (λ (z : List Node). length (image f z)) (same_nodes s c o p))))
-    written_one k r us u p (packed h l) = let q = same_nodes s c o p in let b = same_end s c o p in inl cc
+    written_one k us u p r (Written.too_long h) = inr (inl refl)
+    written_one k us u p r (Written.no_room h l) = inr (inr (refl, omega (arith, ap (λ (z : List Node). length (image f z)) (same_nodes s c o p))))
+    written_one k us u p r (packed h l) = let q = same_nodes s c o p in let b = same_end s c o p in inl cc
 
     pub clause_packs : {r : ClausePackAnswer} {x : List ℕ} → ClausePack f s c d r x
         → (r ≡ Packed (length (image f (clause_nodes s ts t))) e) ⊎ (r ≡ Refused (fault TooLong 0) c) ⊎ ((r ≡ Refused (fault NoRoom 0) c) × (length d < length (image f (clause_nodes s ts t))))
     clause_packs (refused g) = absurd (never s c o g)
-    clause_packs (written {ts = us} {e = k} {t = u} {r = a} p w) = written_one k a us u p w
+    clause_packs (written {ts = us} {e = k} {t = u} {r = a} p w) = written_one k us u p a w
 
   -- and with room for the longest image 9 does not arise
   long_fits : longest_image ≤ length d → (ns : List Node) {w : Fault} {x : List ℕ} (r : PackAnswer) → Written f ns d r x → r ≡ PackAnswer.Refused w → w ≡ fault TooLong 0

@@ -94,11 +94,14 @@ abbrev number : PackAnswer → ℕ
 number (PackAnswer.Packed n) = 0
 number (PackAnswer.Refused w) = number_of w.refusal
 
-pub down_fits : (i d : List ℕ) (r : PackAnswer) (x : List ℕ) → MoveDown i d r x → r ≡ PackAnswer.Refused (fault TooLong 0) → ⊥
+written-fits : (f : Form) (ns : List Node) (i d : List ℕ) (r : PackAnswer) (x : List ℕ) → IsPack f i ns → Written One ns d r x → r ≡ PackAnswer.Refused (fault TooLong 0) → ⊥
 unfolding line_bytes
+written-fits f ns i d r x p (Written.too_long l) e = omega (arith, same_rest f One ns, p.fits)
+written-fits f ns i d r x p (Written.no_room l m) e = let z = ap number e in omega arith
+written-fits f ns i d r x p (packed l m) e = let z = ap number e in omega arith
+
+pub down_fits : (i d : List ℕ) (r : PackAnswer) (x : List ℕ) → MoveDown i d r x → r ≡ PackAnswer.Refused (fault TooLong 0) → ⊥
 down_fits i d r x (MoveOutcome.unread (empty h)) e = let z = ap number e in omega arith
 down_fits i d r x (MoveOutcome.unread (unknown h g)) e = let z = ap number e in omega arith
 down_fits i d r x (MoveOutcome.unread (C.Unread.no_pack h g)) e = let z = ap number e in omega arith
-down_fits i d r x (MoveOutcome.written {f = f} {ns = ns} v p (Written.too_long l)) e = omega (arith, same_rest f One ns, p.fits)
-down_fits i d r x (MoveOutcome.written v p (Written.no_room l m)) e = let z = ap number e in omega arith
-down_fits i d r x (MoveOutcome.written v p (packed l m)) e = let z = ap number e in omega arith
+down_fits i d r x (MoveOutcome.written {f = f} {ns = ns} v p w) e = written-fits f ns i d r x p w e
