@@ -6,8 +6,7 @@ use mathlib.Core.List.{List}
 use borrow.Author.Rules.{rules}
 use Rattle.chunks.specs.declared.delivery.Reader.{Reader}
 use Rattle.ffi_chunks.specs.State.{known, meant, made_up, reader_of}
-use Rattle.ffi_chunks.proofs.state.reader_of.Statement.{statement}
-use Rattle.ffi_chunks.proofs.state.reader_of.Tie as tie
+use Rattle.ffi_chunks.proofs.state.reader_of.Goals as goal
 
 module _ (d : List ℕ) (b : Bool) (e : b ≡ known d) (x : Reader) where
   as-meant : b ≡ true → x ≡ meant d → x ≡ reader_of d
@@ -20,22 +19,8 @@ module _ (d : List ℕ) (b : Bool) (e : b ≡ known d) (x : Reader) where
 
 ruleset ways = (as-meant, as-made-up, rules)
 
--- answers
-is-known-requires : tie.Need-is-known-requires
-is-known-requires c κs = search ways
+pub returns-then-is_known : goal.returns-then-is_known
+returns-then-is_known c = search ways
 
-meant-by-requires : tie.Need-meant-by-requires
-meant-by-requires c κs = search ways
-
-returns : tie.Need-returns
+pub returns : goal.returns
 returns c = search ways
-
-made-up-requires : tie.Need-made-up-requires
-made-up-requires c κs = search ways
-
-returns-2 : tie.Need-returns-2
-returns-2 c = search ways
-
-pub reader_of_spec : {M : Type 1} → statement M
-reader_of_spec =
-    tie.close (tie.spec is-known-requires meant-by-requires returns made-up-requires returns-2)

@@ -6,27 +6,12 @@ use borrow.Author.Rules.{rules}
 use Rattle.chunks.specs.Feed.{finishing}
 use Rattle.chunks.specs.declared.delivery.Reader.{Reader}
 use Rattle.ffi_chunks.specs.State.{fields_of, reader_of}
-use Rattle.ffi_chunks.proofs.thrinvage_finish.Statement.{statement}
-use Rattle.ffi_chunks.proofs.thrinvage_finish.Tie as tie
+use Rattle.ffi_chunks.proofs.thrinvage_finish.Goals as goal
 
 put_finished : (f d : List ℕ) (r x : Reader) → r ≡ reader_of f → x ≡ finishing r → d ≡ fields_of x 0 → d ≡ fields_of (finishing (reader_of f)) 0
 put_finished f d r x e g h = cc
 
 ruleset ways = (put_finished, rules)
 
--- answers
-reader-of-requires : tie.Need-reader-of-requires
-reader-of-requires c κs = search ways
-
-finish-requires : tie.Need-finish-requires
-finish-requires c κs = search ways
-
-put-reader-requires : tie.Need-put-reader-requires
-put-reader-requires c κs = search ways
-
-returns : tie.Need-returns
+pub returns : goal.returns
 returns c = search ways
-
-pub thrinvage_finish_spec : {M : Type 1} → statement M
-thrinvage_finish_spec =
-    tie.close (tie.spec reader-of-requires finish-requires put-reader-requires returns)

@@ -6,8 +6,7 @@ use lib.Dec.{eqb}
 use borrow.Author.Rules.{rules}
 use borrow.Author.Tests.{ne_eqb, le-ltb, lt-ltb}
 use Rattle.ffi_chunks.specs.State.{known_mode}
-use Rattle.ffi_chunks.proofs.state.is_mode.Statement.{statement}
-use Rattle.ffi_chunks.proofs.state.is_mode.Tie as tie
+use Rattle.ffi_chunks.proofs.state.is_mode.Goals as goal
 
 module _ (m s : ℕ) where
   bracketed : m ≡ 2 → true ≡ known_mode m s
@@ -25,15 +24,11 @@ module _ (m s : ℕ) where
 
 ruleset ways = (bracketed, no_slash, no_mode, rules)
 
--- answers
-returns : tie.Need-returns
+pub returns-then-mode-eq2 : goal.returns-then-mode-eq2
+returns-then-mode-eq2 c = search ways
+
+pub returns-then-mode-lt2 : goal.returns-then-mode-lt2
+returns-then-mode-lt2 c = search ways
+
+pub returns : goal.returns
 returns c = search ways
-
-returns-2 : tie.Need-returns-2
-returns-2 c = search ways
-
-returns-3 : tie.Need-returns-3
-returns-3 c = search ways
-
-pub is_mode_spec : {M : Type 1} → statement M
-is-mode-spec = tie.close (tie.spec returns returns-2 returns-3)

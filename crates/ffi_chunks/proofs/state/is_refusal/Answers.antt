@@ -6,8 +6,7 @@ use lib.Dec.{ltb}
 use borrow.Author.Rules.{rules}
 use borrow.Author.Tests.{ne_eqb, le-ltb, lt-ltb}
 use Rattle.ffi_chunks.specs.State.{known_refusal}
-use Rattle.ffi_chunks.proofs.state.is_refusal.Statement.{statement}
-use Rattle.ffi_chunks.proofs.state.is_refusal.Tie as tie
+use Rattle.ffi_chunks.proofs.state.is_refusal.Goals as goal
 
 module _ (n : ℕ) where
   last : n ≡ 18 → true ≡ known_refusal n
@@ -25,15 +24,11 @@ module _ (n : ℕ) where
 
 ruleset ways = (last, some, none, rules)
 
--- answers
-returns : tie.Need-returns
+pub returns-then-number-eq18 : goal.returns-then-number-eq18
+returns-then-number-eq18 c = search ways
+
+pub returns-then-number-gt0 : goal.returns-then-number-gt0
+returns-then-number-gt0 c = search ways
+
+pub returns : goal.returns
 returns c = search ways
-
-returns-2 : tie.Need-returns-2
-returns-2 c = search ways
-
-returns-3 : tie.Need-returns-3
-returns-3 c = search ways
-
-pub is_refusal_spec : {M : Type 1} → statement M
-is-refusal-spec = tie.close (tie.spec returns returns-2 returns-3)

@@ -7,8 +7,7 @@ use Rattle.lexer.specs.Refusal.{fault}
 use Rattle.lexer.specs.declared.refusal.Refusal.{Refusal}
 use Rattle.chunks.specs.declared.delivery.Phase.{Phase}
 use Rattle.ffi_chunks.specs.State.{refusal_of, phase_of}
-use Rattle.ffi_chunks.proofs.state.phase_of.Statement.{statement}
-use Rattle.ffi_chunks.proofs.state.phase_of.Tie as tie
+use Rattle.ffi_chunks.proofs.state.phase_of.Goals as goal
 
 module _ (p n at : ℕ) where
   open-phase : p ≡ 0 → Phase.Open ≡ phase_of p n at
@@ -25,18 +24,11 @@ module _ (p n at : ℕ) where
 
 ruleset ways = (open-phase, ended, refused, rules)
 
--- answers
-refusal-of-requires : tie.Need-refusal-of-requires
-refusal-of-requires c κs = search ways
+pub returns-in-0 : goal.returns-in-0
+returns-in-0 c = search ways
 
-returns : tie.Need-returns
-returns c = search ways
+pub returns-in-1 : goal.returns-in-1
+returns-in-1 c = search ways
 
-returns-2 : tie.Need-returns-2
-returns-2 c = search ways
-
-returns-3 : tie.Need-returns-3
-returns-3 c = search ways
-
-pub phase_of_spec : {M : Type 1} → statement M
-phase-of-spec = tie.close (tie.spec refusal-of-requires returns returns-2 returns-3)
+pub returns-in_default : goal.returns-in_default
+returns-in_default c = search ways

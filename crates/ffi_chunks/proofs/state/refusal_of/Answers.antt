@@ -5,8 +5,7 @@ use borrow.Author.Rules.{rules}
 use borrow.Author.Tests.{ne_eqb}
 use Rattle.lexer.specs.declared.refusal.Refusal.TheVariants.{EndOfText, UnclosedComment, NoToken, BadQuoted, ForeignByte, SetAside, OutOfLimit, NotValid, NoRoom, TooManyTokens, NoReading, NoText, TooLong, NoPack, TokenTooLong, UnknownVersion}
 use Rattle.ffi_chunks.specs.State.{refusal_of}
-use Rattle.ffi_chunks.proofs.state.refusal_of.Statement.{statement}
-use Rattle.ffi_chunks.proofs.state.refusal_of.Tie as tie
+use Rattle.ffi_chunks.proofs.state.refusal_of.Goals as goal
 
 module _ (n : ℕ) where
   is-1 : n ≡ 1 → EndOfText ≡ refusal_of n
@@ -75,72 +74,50 @@ module _ (n : ℕ) where
 
 ruleset ways = (is-1, is-2, is-3, is-4, is-5, is-6, is-7, is-8, is-9, is-10, is-11, is-12, is-13, is-14, is-15, is_other, rules)
 
--- answers
-returns : tie.Need-returns
-returns c = search ways
+pub returns-in-1 : goal.returns-in-1
+returns-in-1 c = search ways
 
-returns-2 : tie.Need-returns-2
-returns-2 c = search ways
+pub returns-in-2 : goal.returns-in-2
+returns-in-2 c = search ways
 
-returns-3 : tie.Need-returns-3
-returns-3 c = search ways
+pub returns-in-3 : goal.returns-in-3
+returns-in-3 c = search ways
 
-returns-4 : tie.Need-returns-4
-returns-4 c = search ways
+pub returns-in-4 : goal.returns-in-4
+returns-in-4 c = search ways
 
-returns-5 : tie.Need-returns-5
-returns-5 c = search ways
+pub returns-in-5 : goal.returns-in-5
+returns-in-5 c = search ways
 
-returns-6 : tie.Need-returns-6
-returns-6 c = search ways
+pub returns-in-6 : goal.returns-in-6
+returns-in-6 c = search ways
 
-returns-7 : tie.Need-returns-7
-returns-7 c = search ways
+pub returns-in-7 : goal.returns-in-7
+returns-in-7 c = search ways
 
-returns-8 : tie.Need-returns-8
-returns-8 c = search ways
+pub returns-in-8 : goal.returns-in-8
+returns-in-8 c = search ways
 
-returns-9 : tie.Need-returns-9
-returns-9 c = search ways
+pub returns-in-9 : goal.returns-in-9
+returns-in-9 c = search ways
 
-returns-10 : tie.Need-returns-10
-returns-10 c = search ways
+pub returns-in-10 : goal.returns-in-10
+returns-in-10 c = search ways
 
-returns-11 : tie.Need-returns-11
-returns-11 c = search ways
+pub returns-in-11 : goal.returns-in-11
+returns-in-11 c = search ways
 
-returns-12 : tie.Need-returns-12
-returns-12 c = search ways
+pub returns-in-12 : goal.returns-in-12
+returns-in-12 c = search ways
 
-returns-13 : tie.Need-returns-13
-returns-13 c = search ways
+pub returns-in-13 : goal.returns-in-13
+returns-in-13 c = search ways
 
-returns-14 : tie.Need-returns-14
-returns-14 c = search ways
+pub returns-in-14 : goal.returns-in-14
+returns-in-14 c = search ways
 
-returns-15 : tie.Need-returns-15
-returns-15 c = search ways
+pub returns-in-15 : goal.returns-in-15
+returns-in-15 c = search ways
 
-returns-16 : tie.Need-returns-16
-returns-16 c = search ways
-
-pub refusal_of_spec : {M : Type 1} → statement M
-refusal_of_spec =
-    tie.close
-    (tie.spec
-    returns
-    returns-2
-    returns-3
-    returns-4
-    returns-5
-    returns-6
-    returns-7
-    returns-8
-    returns-9
-    returns-10
-    returns-11
-    returns-12
-    returns-13
-    returns-14
-    returns-15
-    returns-16)
+pub returns-in_default : goal.returns-in_default
+returns-in_default c = search ways

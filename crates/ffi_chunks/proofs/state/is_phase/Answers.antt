@@ -6,8 +6,7 @@ use lib.Dec.{eqb}
 use borrow.Author.Rules.{rules}
 use borrow.Author.Tests.{ne_eqb, le-ltb, lt-ltb}
 use Rattle.ffi_chunks.specs.State.{known_refusal, known_phase}
-use Rattle.ffi_chunks.proofs.state.is_phase.Statement.{statement}
-use Rattle.ffi_chunks.proofs.state.is_phase.Tie as tie
+use Rattle.ffi_chunks.proofs.state.is_phase.Goals as goal
 
 module _ (p n at : ℕ) where
   refused : (b : Bool) → p ≡ 2 → b ≡ known_refusal n → b ≡ known_phase p n at
@@ -29,21 +28,14 @@ module _ (p n at : ℕ) where
 
 ruleset ways = (refused, no_offset, some_refusal, no_phase, rules)
 
--- answers
-is-refusal-requires : tie.Need-is-refusal-requires
-is-refusal-requires c κs = search ways
+pub returns-then-phase-eq2 : goal.returns-then-phase-eq2
+returns-then-phase-eq2 c = search ways
 
-returns : tie.Need-returns
+pub returns-then-refusal-eq0 : goal.returns-then-refusal-eq0
+returns-then-refusal-eq0 c = search ways
+
+pub returns-then-phase-lt2 : goal.returns-then-phase-lt2
+returns-then-phase-lt2 c = search ways
+
+pub returns : goal.returns
 returns c = search ways
-
-returns-2 : tie.Need-returns-2
-returns-2 c = search ways
-
-returns-3 : tie.Need-returns-3
-returns-3 c = search ways
-
-returns-4 : tie.Need-returns-4
-returns-4 c = search ways
-
-pub is_phase_spec : {M : Type 1} → statement M
-is-phase-spec = tie.close (tie.spec is-refusal-requires returns returns-2 returns-3 returns-4)

@@ -5,8 +5,7 @@ use borrow.Author.Rules.{rules}
 use borrow.Author.Tests.{ne_eqb}
 use Rattle.chunks.specs.declared.layout.Mode.TheVariants.{Blank, Line, Inside}
 use Rattle.ffi_chunks.specs.State.{mode_of}
-use Rattle.ffi_chunks.proofs.state.mode_of.Statement.{statement}
-use Rattle.ffi_chunks.proofs.state.mode_of.Tie as tie
+use Rattle.ffi_chunks.proofs.state.mode_of.Goals as goal
 
 module _ (m s : ℕ) where
   blank : m ≡ 0 → Blank ≡ mode_of m s
@@ -23,15 +22,11 @@ module _ (m s : ℕ) where
 
 ruleset ways = (blank, line, inside, rules)
 
--- answers
-returns : tie.Need-returns
-returns c = search ways
+pub returns-in-0 : goal.returns-in-0
+returns-in-0 c = search ways
 
-returns-2 : tie.Need-returns-2
-returns-2 c = search ways
+pub returns-in-1 : goal.returns-in-1
+returns-in-1 c = search ways
 
-returns-3 : tie.Need-returns-3
-returns-3 c = search ways
-
-pub mode_of_spec : {M : Type 1} → statement M
-mode-of-spec = tie.close (tie.spec returns returns-2 returns-3)
+pub returns-in_default : goal.returns-in_default
+returns-in_default c = search ways

@@ -8,8 +8,7 @@ use Rattle.chunks.specs.declared.delivery.Fed.{Fed}
 use Rattle.chunks.specs.declared.delivery.Reader.{Reader}
 use Rattle.fields.specs.Fields.{Outcome}
 use Rattle.ffi_chunks.specs.State.{fields_of, reader_of, given_leaves, left, feeding_leaves}
-use Rattle.ffi_chunks.proofs.thrinvage_feed.Statement.{statement}
-use Rattle.ffi_chunks.proofs.thrinvage_feed.Tie as tie
+use Rattle.ffi_chunks.proofs.thrinvage_feed.Goals as goal
 
 all_left : (f w chunk d n v : List ℕ) (r : Reader) (x : Fed) (o : Outcome) → r ≡ reader_of f → leaves x v ≡ feeding r w chunk → n ≡ fields_of x.reader x.taken → o ≡ given_leaves x.given d → left o n v ≡ feeding_leaves (feeding (reader_of f) w chunk) d
 unfolding feeding_leaves
@@ -17,23 +16,5 @@ all_left f w chunk d n v r x o e g h i = cc
 
 ruleset ways = (all_left, rules)
 
--- answers
-reader-of-requires : tie.Need-reader-of-requires
-reader-of-requires c κs = search ways
-
-feed-requires : tie.Need-feed-requires
-feed-requires c κs = search ways
-
-put-reader-requires : tie.Need-put-reader-requires
-put-reader-requires c κs = search ways
-
-put-given-requires : tie.Need-put-given-requires
-put-given-requires c κs = search ways
-
-returns : tie.Need-returns
+pub returns : goal.returns
 returns c = search ways
-
-pub thrinvage_feed_spec : {M : Type 1} → statement M
-thrinvage_feed_spec =
-    tie.close
-    (tie.spec reader-of-requires feed-requires put-reader-requires put-given-requires returns)
