@@ -8,8 +8,11 @@ ghost use Rattle.reader.specs.LineCall.{longest_line};
 ghost use Rattle.listing.specs.Ends.{Ends};
 
 use lexer::{Cursor, Fault, refusal_number};
-use libc::{STDIN_FILENO, STDOUT_FILENO};
 use reader::{LineAnswer, list_clause};
+
+// The numbers of the standard streams, as POSIX has them.
+const STDIN_FILENO: i32 = 0;
+const STDOUT_FILENO: i32 = 1;
 
 // One byte more than a text may have: the first call refuses it then.
 const INPUT: usize = 65536;

@@ -2,7 +2,8 @@
 ghost use Rattle.std.specs.Prelude.{◌≤◌, length};
 ghost use Rattle.probe.specs.Window.{Inside};
 
-use libc::STDIN_FILENO;
+// The number of the standard input, as POSIX has it.
+const STDIN_FILENO: i32 = 0;
 
 // More than three of the largest cases: what is moved down is then less than what was read.
 pub const INPUT: usize = 262144;

@@ -2,7 +2,8 @@
 // anew, so no answer is too long for it.
 ghost use Rattle.std.specs.Prelude.{◌<◌};
 
-use libc::STDOUT_FILENO;
+// The number of the standard output, as POSIX has it.
+const STDOUT_FILENO: i32 = 1;
 
 pub const OUTPUT: usize = 65536;
 
