@@ -16,3 +16,6 @@ returns-in-Absent c = search ways
 
 pub returns-in-Refused : goal.returns-in-Refused
 returns-in-Refused c = search ways
+
+pub loop-next-smaller : goal.loop-next-smaller
+loop-next-smaller c = search ways
