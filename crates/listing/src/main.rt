@@ -12,6 +12,7 @@ use reader::{LineAnswer, list_clause};
 
 // The numbers of the standard streams, as POSIX has them.
 const STDIN_FILENO: i32 = 0;
+
 const STDOUT_FILENO: i32 = 1;
 
 // One byte more than a text may have: the first call refuses it then.
