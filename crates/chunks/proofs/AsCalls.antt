@@ -1,21 +1,21 @@
 -- What is handed out of a text is what the token call gives on it, up to a token that is too long. Assumes nothing.
 use mathlib.Core.Path.{◌≡◌, refl, sym, subst, ◌∙◌, ap}
-use mathlib.Core.Logic.{◌⊎◌, inl, inr, ⊎_elim}
+use mathlib.Core.Logic.{◌⊎◌, inl, inr}
 use mathlib.Core.Bool.{Bool, true, false, cond}
 use mathlib.Core.List.{List}
-use Prim.Native.Nat.{ℕ, ◌+◌, ◌<◌, ◌≤◌}
+use Prim.Native.Nat.{ℕ, ◌+◌, ◌<◌}
 use native.Mathlib.Omega.{arith}
 use borrow.Author.Tests.{ne_eqb}
 use lib.Dec.{ltb, eqb}
 use lib.ListN.{length, get_or}
 use Rattle.lexer.specs.Chars.{is, decimal_digit}
-use Rattle.lexer.specs.Cursor.{longest, move_to, valid, Valid}
+use Rattle.lexer.specs.Cursor.{Valid}
 use Rattle.lexer.specs.Digits.{beyond}
 use Rattle.lexer.specs.Float.{float_value}
 use Rattle.lexer.specs.Layout.{layout_end}
 use Rattle.lexer.specs.Number.{number_token, number_end}
 use Rattle.lexer.specs.Refusal.{fault}
-use Rattle.lexer.specs.Token.{Text, Lexeme, lexeme, refused, floated, valued, numbered, plain_lexeme, after_layout, lexeme_since, read_lexeme, answered, not_valid, next_token}
+use Rattle.lexer.specs.Token.{Text, Lexeme, lexeme, refused, floated, valued, numbered, plain_lexeme, after_layout, lexeme_since, read_lexeme, answered, next_token}
 use Rattle.lexer.specs.declared.refusal.Fault.{Fault}
 use Rattle.lexer.specs.declared.refusal.Refusal.TheVariants.{EndOfText, OutOfLimit, TokenTooLong}
 use Rattle.lexer.specs.declared.cursor.Cursor.{Cursor}
@@ -34,7 +34,7 @@ use Rattle.lexer.proofs.Calls.{passes}
 use Rattle.lexer.proofs.Cursors.{move_valid}
 use Rattle.lexer.proofs.Promises.{lexeme_ends, token_there}
 use Rattle.lexer.proofs.Spans.{by_test}
-use Rattle.chunks.specs.Whole.{longest_token, token_at, end_of, token_end, longer_than, showing, longer, limited, after_layout as afterLayoutLimited, next_lexeme, Handed, token, last, stuck, Next, Hands, TooLong, Calls, NoneLonger}
+use Rattle.chunks.specs.Whole.{longest_token, token_at, end_of, token_end, longer_than, showing, longer, after_layout as afterLayoutLimited, next_lexeme, Handed, token, last, stuck, Next, Hands, TooLong, Calls, NoneLonger}
 use Rattle.chunks.proofs.Windows.{true-false, digit_token}
 
 pub refused_lexeme : (w : Fault) (t : Token) (e : ℕ) (x : Text) → refused w ≡ lexeme t e x → ⊥

@@ -1,8 +1,8 @@
 -- What is given of the bytes at hand leaves the others at hand, and a cursor that can move over them. Assumes nothing.
-use mathlib.Core.Path.{◌≡◌, refl, sym, subst, ◌∙◌, ap}
+use mathlib.Core.Path.{◌≡◌, refl, sym}
 use mathlib.Core.Bool.{Bool, true, false, cond}
 use mathlib.Core.List.{List, [], append-nil}
-use Prim.Native.Nat.{ℕ, ◌+◌, ◌-◌, ◌<◌, ◌≤◌}
+use Prim.Native.Nat.{ℕ, ◌+◌, ◌<◌, ◌≤◌}
 use native.Mathlib.Omega.{arith}
 use lib.Dec.{ltb}
 use lib.ListN.{length, take, drop, length-drop}
@@ -15,10 +15,9 @@ use Rattle.lexer.proofs.Cursors.{walk_offset, walk-valid}
 use Rattle.chunks.specs.Reader.{Passed, stopped, pass, Gives, handed, more, never, judged, given, reading, Passable}
 use Rattle.chunks.specs.Verdict.{Verdict, settled, too_long, waiting, verdict}
 use Rattle.chunks.specs.declared.layout.Mode.{Mode}
-use Rattle.chunks.specs.declared.pass.Why.{Why}
 use Rattle.chunks.specs.declared.pass.Why.TheVariants.{Starts, Waits, Stops}
 use Rattle.chunks.proofs.Hands.{hand_right}
-use Rattle.chunks.proofs.Passing.{Onward, OnwardTo, pass-onward}
+use Rattle.chunks.proofs.Passing.{OnwardTo, pass-onward}
 use Rattle.chunks.proofs.Verdicts.{Right}
 
 -- of the bytes between two offsets u is left, from the cursor d on

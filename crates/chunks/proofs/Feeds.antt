@@ -2,13 +2,13 @@
 use mathlib.Core.Path.{◌≡◌, refl, sym, subst, ◌∙◌, ap}
 use mathlib.Core.Bool.{Bool, true, false, cond, ◌&&◌}
 use mathlib.Core.List.{List, [], ◌∷◌, ◌++◌, append_assoc}
-use Prim.Native.Nat.{ℕ, zero, suc, ◌+◌, ◌-◌, ◌<◌, ◌≤◌, min}
+use Prim.Native.Nat.{ℕ, suc, ◌+◌, ◌-◌, ◌<◌, ◌≤◌, min}
 use native.Mathlib.Omega.{arith}
-use borrow.Author.Tests.{leb-true, leb-false, ltb-true, ltb-false, le-leb, lt-leb, eqb-true, eqb-false, eq-eqb, ne_eqb}
+use borrow.Author.Tests.{leb-true, ltb-true, ltb-false, le-leb, eqb-true, eq-eqb}
 use mir.Val.{Fits}
 use mir.Syntax.{w64}
 use lib.Dec.{leb, ltb, eqb}
-use lib.ListN.{length, take, drop, set, length-append, length-drop, length-set}
+use lib.ListN.{length, take, drop, length-append, length-drop, length-set}
 use lib.Seq.{length-take-le, take_at, drop_at, take-add, take-set-le, take-suc-set, paste, length-paste, take-paste}
 use Rattle.lexer.specs.Cursor.{longest, valid, Valid}
 use Rattle.lexer.proofs.Cursors.{both, is-valid}
@@ -19,13 +19,12 @@ use Rattle.chunks.specs.Feed.{full_hand, at_hand, hand_in, delivered, window_siz
 use Rattle.chunks.specs.Hand.{to_next, Held}
 use Rattle.chunks.specs.Reader.{Gives, handed, more, never, reading, Passable}
 use Rattle.chunks.specs.Shift.{unknown}
-use Rattle.chunks.specs.Whole.{longest_token}
 use Rattle.chunks.specs.declared.delivery.Fed.{Fed}
 use Rattle.chunks.specs.declared.delivery.Given.{Given}
 use Rattle.chunks.specs.declared.delivery.Reader.{Reader}
 use Rattle.chunks.specs.declared.hand.Next.{Next}
 use Rattle.chunks.specs.declared.layout.Mode.TheVariants.{Blank}
-use Rattle.chunks.proofs.Counts.{Rest, Counts, reading_counts}
+use Rattle.chunks.proofs.Counts.{Counts, reading_counts}
 
 -- ---- what the tests tell
 pub record Sound (r : Reader) : Type 0 where

@@ -3,26 +3,25 @@ use mathlib.Core.Path.{◌≡◌, refl, sym, subst, ◌∙◌, ap}
 use mathlib.Core.Logic.{◌⊎◌, inl, inr}
 use mathlib.Core.Bool.{Bool, true, false, cond}
 use mathlib.Core.List.{List, [], ◌∷◌, ◌++◌, append-nil}
-use Prim.Native.Nat.{ℕ, zero, suc, ◌+◌, ◌-◌, ◌<◌, ◌≤◌}
+use Prim.Native.Nat.{ℕ, ◌+◌, ◌-◌, ◌<◌, ◌≤◌}
 use native.Mathlib.Omega.{arith}
 use lib.Dec.{ltb}
 use lib.ListN.{length, take, drop, length-append, length-drop}
 use lib.Seq.{length-take-le, drop-append-le, take_at, take_all}
 use Rattle.lexer.specs.Cursor.{longest, start_cursor, walk, move_to, Valid}
 use Rattle.lexer.specs.Refusal.{fault}
-use Rattle.lexer.specs.Token.{Text, Lexeme, lexeme, refused, token_since}
+use Rattle.lexer.specs.Token.{Lexeme, lexeme, refused, token_since}
 use Rattle.lexer.specs.declared.refusal.Fault.{Fault}
 use Rattle.lexer.specs.declared.refusal.Refusal.TheVariants.{TokenTooLong}
 use Rattle.lexer.specs.declared.cursor.Cursor.{Cursor}
-use Rattle.lexer.specs.declared.token.Token.{Token}
 use Rattle.lexer.proofs.Cursors.{move_offset, move_valid}
 use Rattle.lexer.proofs.Faults.{token-refused_inside}
 use Rattle.lexer.proofs.Promises.{token_there}
 use Rattle.lexer.specs.declared.token.Source.TheVariants.{File}
 use Rattle.chunks.specs.Answers.{hand_of, Viewed, judge_of, told}
 use Rattle.chunks.specs.Hand.{to_next, next_by, Fits, Held, Starting}
-use Rattle.chunks.specs.Reader.{Passed, stopped, pass, placed, more, never, judged, given, reading, moved_by, Sums, Passable}
-use Rattle.chunks.specs.Shift.{unknown, shift_token, shift_fault, shift_lexeme}
+use Rattle.chunks.specs.Reader.{Passed, stopped, pass, placed, more, never, judged, given, reading, Sums, Passable}
+use Rattle.chunks.specs.Shift.{unknown, shift_token, shift_lexeme}
 use Rattle.chunks.specs.Verdict.{Verdict, settled, too_long, waiting, verdict}
 use Rattle.chunks.specs.Whole.{token_at, longer, limited}
 use Rattle.chunks.specs.declared.hand.Next.{Next}

@@ -1,28 +1,27 @@
 -- Quoted items in a window and in the text. Assumes nothing.
 use mathlib.Core.Path.{◌≡◌, refl, sym, subst, ◌∙◌, ap}
-use mathlib.Core.Logic.{◌⊎◌, inl, inr, ⊎_elim}
+use mathlib.Core.Logic.{inl, inr}
 use mathlib.Core.Bool.{Bool, true, false, cond}
 use mathlib.Core.List.{List}
-use Prim.Native.Nat.{ℕ, zero, suc, ◌+◌, ◌-◌, ◌<◌, ◌≤◌}
+use Prim.Native.Nat.{ℕ, ◌+◌, ◌-◌, ◌<◌, ◌≤◌}
 use native.Mathlib.Omega.{arith}
 use borrow.Author.Tests.{eq-eqb, ne_eqb, eqb-true, eqb-false}
 use lib.Dec.{eqb, leb}
-use lib.ListN.{length, drop, get_or}
+use lib.ListN.{drop}
 use Rattle.lexer.specs.Chars.{among, newline, backslash, small_x}
 use Rattle.lexer.specs.Digits.{is_digit, digits_at}
 use Rattle.lexer.specs.Look.{peek, needed, lookahead}
-use Rattle.lexer.specs.Quoted.{unquotable, escape_of, coded, closed, numeric_escape, escape_to, escape, quote_to, item_to, quoted_item, Quoted, whole, refused, with_char, out_of_limit, decode}
+use Rattle.lexer.specs.Quoted.{unquotable, escape_of, coded, closed, numeric_escape, escape_to, escape, quote_to, item_to, quoted_item}
 use Rattle.lexer.specs.Refusal.{fault}
 use Rattle.lexer.specs.declared.refusal.Fault.{Fault}
-use Rattle.lexer.specs.declared.refusal.Refusal.TheVariants.{EndOfText, ForeignByte, BadQuoted, OutOfLimit}
+use Rattle.lexer.specs.declared.refusal.Refusal.TheVariants.{ForeignByte, BadQuoted}
 use Rattle.lexer.specs.declared.chars.Peek.{Peek}
-use Rattle.lexer.specs.declared.chars.Peek.TheVariants.{Byte, Foreign, End}
+use Rattle.lexer.specs.declared.chars.Peek.TheVariants.{Byte}
 use Rattle.lexer.specs.declared.chars.Look.{Look}
 use Rattle.lexer.specs.declared.digits.Digits.{Digits}
 use Rattle.lexer.specs.declared.quoted.Item.{Item}
 use Rattle.lexer.specs.declared.quoted.Item.TheVariants.{Char, Beyond, Skip, Close, Refused}
 use Rattle.lexer.proofs.Bases.{digits_bounds}
-use Rattle.lexer.proofs.Spans.{by_test}
 use Rattle.chunks.specs.Shift.{shift_fault}
 use Rattle.chunks.proofs.Kept.{Near, Shows, Hidden, Kept, by_tests, by_look, both_refuse}
 use Rattle.chunks.proofs.Runs.{shift_digits, DigitsKept, digits-kept}

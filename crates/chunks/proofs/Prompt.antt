@@ -15,7 +15,7 @@ use Rattle.lexer.specs.Number.{number_token, number_end}
 use Rattle.lexer.specs.Refusal.{fault}
 use Rattle.lexer.specs.Token.{numbered, Lexeme, lexeme, refused, lexeme_since}
 use Rattle.lexer.specs.declared.refusal.Fault.{Fault}
-use Rattle.lexer.specs.declared.refusal.Refusal.TheVariants.{EndOfText, UnclosedComment, ForeignByte, TokenTooLong}
+use Rattle.lexer.specs.declared.refusal.Refusal.TheVariants.{UnclosedComment, ForeignByte, TokenTooLong}
 use Rattle.lexer.specs.declared.cursor.Cursor.{Cursor}
 use Rattle.lexer.specs.declared.cursor.Scan.TheVariants.{Refused}
 use Rattle.lexer.specs.declared.token.Token.{Token}

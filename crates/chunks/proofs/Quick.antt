@@ -11,11 +11,10 @@ use lib.ListN.{length, take, drop, get_or, length-append}
 use lib.Seq.{length-take-le}
 use Rattle.lexer.specs.Chars.{is, class_of, decimal_digit}
 use Rattle.lexer.specs.Digits.{is_digit}
-use Rattle.lexer.specs.Cursor.{longest, start_cursor}
-use Rattle.lexer.specs.Layout.{layout_end}
+use Rattle.lexer.specs.Cursor.{start_cursor}
 use Rattle.lexer.specs.Number.{number_token, number_end}
 use Rattle.lexer.specs.Refusal.{number_of, fault}
-use Rattle.lexer.specs.Token.{Text, Lexeme, lexeme, refused, token_since, read_lexeme, answered, next_token}
+use Rattle.lexer.specs.Token.{Lexeme, lexeme, refused, token_since, read_lexeme, answered, next_token}
 use Rattle.lexer.specs.declared.refusal.Fault.{Fault}
 use Rattle.lexer.specs.declared.refusal.Refusal.{Refusal}
 use Rattle.lexer.specs.declared.refusal.Refusal.TheVariants.{ForeignByte}
@@ -34,7 +33,7 @@ use Rattle.lexer.proofs.Numbers.{whole_ends, partial_ends}
 use Rattle.lexer.proofs.Promises.{class_digit, token_there}
 use Rattle.lexer.proofs.Spans.{by_test}
 use Rattle.chunks.specs.Answers.{answer_came, of_answer, hand_of}
-use Rattle.chunks.specs.Hand.{to_next, next_by, TokenFits, Fits, Held, Brief}
+use Rattle.chunks.specs.Hand.{to_next, next_by, Fits, Held, Brief}
 use Rattle.chunks.specs.Reader.{Gives, handed, more, never, Passed, stopped, pass, placed, judged, given, reading, moved_by, Sums, Passable}
 use Rattle.chunks.specs.Shift.{unknown, shift_token}
 use Rattle.chunks.specs.Whole.{longest_token, token_at, own_byte, end_of, token_end, unshown, longer_than, showing, longer, next_lexeme, Next as Next', NoneLonger}
@@ -53,7 +52,7 @@ use Rattle.chunks.proofs.Prompt.{never_ended, begun-after, foreign_next}
 use Rattle.chunks.proofs.Reading.{Stands, Tells, reading_tells}
 use Rattle.chunks.proofs.Shifted.{shift_next, reading-from_start}
 use Rattle.chunks.proofs.Verdicts.{digit_seen}
-use Rattle.chunks.proofs.Windows.{true-false, hit_came}
+use Rattle.chunks.proofs.Windows.{true-false}
 
 -- ---- in a text of fewer than 1,024 bytes no token is longer
 number-inside : (s : List ℕ) (at : ℕ) → at < length s → is decimal_digit (get_or s at 0) ≡ true → number_end (number_token s at) ≤ length s

@@ -1,18 +1,16 @@
 -- When a feeding is refused before a byte is taken, and that a refusal is kept. Assumes nothing.
-use mathlib.Core.Path.{◌≡◌, refl, sym, subst, ◌∙◌, ap}
+use mathlib.Core.Path.{◌≡◌, refl, ◌∙◌, ap}
 use mathlib.Core.Bool.{Bool, true, false, cond, ◌&&◌}
-use mathlib.Core.List.{List, [], ◌++◌}
-use Prim.Native.Nat.{ℕ, ◌+◌, ◌<◌, ◌≤◌}
+use mathlib.Core.List.{List, ◌++◌}
+use Prim.Native.Nat.{ℕ, ◌+◌, ◌<◌}
 use native.Mathlib.Omega.{arith}
 use borrow.Author.Tests.{lt-leb}
-use lib.Dec.{leb}
 use lib.ListN.{length, take}
 use Rattle.lexer.specs.Cursor.{longest}
 use Rattle.lexer.specs.Token.{not_valid}
 use Rattle.lexer.specs.declared.refusal.Fault.{Fault}
 use Rattle.chunks.specs.Feed.{Leaves, leaves, delivered, sound, admitted, at_hand, takes, end_of_hand, hand_in, place, filled_with, refusing, gave, took, offered, by_phase, feeding}
 use Rattle.chunks.specs.Reader.{Gives, handed, more, never, reading}
-use Rattle.chunks.specs.declared.delivery.Fed.{Fed}
 use Rattle.chunks.specs.declared.delivery.Given.{Given}
 use Rattle.chunks.specs.declared.delivery.Phase.{Phase}
 use Rattle.chunks.specs.declared.delivery.Reader.{Reader}

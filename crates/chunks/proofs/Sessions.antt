@@ -1,26 +1,25 @@
 -- A caller who drives the reader is handed what the whole text has. Assumes nothing.
 use mathlib.Core.Path.{◌≡◌, refl, sym, subst, ◌∙◌, ap}
-use mathlib.Core.Bool.{Bool, true, false, cond, ◌&&◌}
+use mathlib.Core.Bool.{Bool, true, false, cond}
 use mathlib.Core.List.{List, [], ◌∷◌, ◌++◌, append_assoc, append-nil}
 use Prim.Native.Nat.{ℕ, zero, suc, ◌+◌, ◌-◌, ◌<◌, ◌≤◌, min}
 use native.Mathlib.Decide.{dec_le}
 use native.Mathlib.Omega.{arith}
 use borrow.Author.Tests.{lt-ltb, ltb-true, le-leb}
-use lib.Dec.{leb, ltb}
+use lib.Dec.{ltb}
 use lib.ListN.{length, take, drop, length-append, length-drop, length-take, take-append-drop}
 use lib.Seq.{length-take-le, take-nil, take-take, drop-drop}
-use Rattle.lexer.specs.Cursor.{longest, start_cursor, valid, Valid, part}
+use Rattle.lexer.specs.Cursor.{longest, start_cursor, Valid, part}
 use Rattle.lexer.specs.Token.{refused}
 use Rattle.lexer.specs.declared.refusal.Fault.{Fault}
 use Rattle.lexer.specs.declared.cursor.Cursor.{Cursor}
 use Rattle.lexer.specs.declared.token.Token.{Token}
 use Rattle.lexer.proofs.Calls.{passes}
-use Rattle.chunks.specs.Feed.{full_hand, Leaves, leaves, at_hand, hand_in, delivered, window_size, most_at_hand, sound, admitted, takes, place_of, place, end_of_hand, filled_with, gave, took, offered, by_phase, feeding, begun, ended_phase, in_phase, finishing}
+use Rattle.chunks.specs.Feed.{full_hand, Leaves, leaves, at_hand, hand_in, delivered, window_size, most_at_hand, sound, admitted, takes, place, end_of_hand, filled_with, gave, took, by_phase, feeding, begun, ended_phase, in_phase, finishing}
 use Rattle.chunks.specs.Reader.{Gives, handed, more, never, reading, Passable}
 use Rattle.chunks.specs.Shift.{unknown}
 use Rattle.chunks.specs.Session.{left, told as heard, call, session}
-use Rattle.chunks.specs.Whole.{longest_token, next_lexeme, Handed, token, last, stuck, Next, Hands, Complete, joined}
-use Rattle.chunks.specs.declared.delivery.Fed.{Fed}
+use Rattle.chunks.specs.Whole.{longest_token, next_lexeme, Handed, token, last, Next, Hands, Complete, joined}
 use Rattle.chunks.specs.declared.delivery.Given.{Given}
 use Rattle.chunks.specs.declared.delivery.Phase.{Phase}
 use Rattle.chunks.specs.declared.delivery.Reader.{Reader}

@@ -9,7 +9,6 @@ use native.Mathlib.Omega.{arith}
 use borrow.Author.Tests.{ltb-true}
 use lib.ListN.{length, get_or, drop, length-drop}
 use lib.Seq.{get_or-drop}
-use Rattle.lexer.specs.Chars.{newline}
 use Rattle.lexer.specs.Digits.{digit_of, is_digit, digits, digits_at, beyond, held}
 use Rattle.lexer.specs.declared.digits.Digits.{Digits}
 use Rattle.lexer.proofs.Cursors.{NoNewline}

@@ -1,7 +1,6 @@
 -- Document 01's starred specimens of tokens, and layout texts of March, as tables that antt computes from the definitions. Assumes nothing.
 use Prim.Native.Nat.{ℕ}
 use Prim.Native.Char.{code}
-use Prim.Native.String
 use Prim.Native.String.{String}
 use mathlib.Core.Path.{◌≡◌, refl}
 use mathlib.Core.Bool.{false}

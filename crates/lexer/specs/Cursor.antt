@@ -1,5 +1,5 @@
 -- Cursors, and how a text moves them: 01, "Bytes, cursor, domain". Definitions only.
-use Rattle.std.specs.Prelude.{ℕ, ◌+◌, ◌-◌, ◌<◌, ◌≤◌, ◌≡◌, Bool, cond, ◌&&◌, List, [], ◌∷◌, leb, eqb, length, take, drop}
+use Rattle.std.specs.Prelude.{ℕ, ◌+◌, ◌-◌, ◌<◌, ◌≤◌, Bool, cond, ◌&&◌, List, [], ◌∷◌, leb, eqb, take, drop}
 use Rattle.lexer.specs.Chars.{newline}
 use Rattle.lexer.specs.declared.cursor.Cursor.{Cursor}
 

@@ -1,5 +1,5 @@
 -- How a name is found: the entry at one place says of a name what the whole table says. Assumes nothing.
-use Prim.Native.Nat.{ℕ, zero, suc, ◌+◌, ◌≤◌, ◌<◌}
+use Prim.Native.Nat.{ℕ, zero, suc, ◌+◌, ◌<◌}
 use mathlib.Core.Path.{◌≡◌, ◌∙◌, refl, sym, subst, subst⁻¹}
 use mathlib.Core.Bool.{Bool, true, false, ◌&&◌, ◌||◌, not, cond, false≢true}
 use mathlib.Core.Option.{none}
@@ -11,7 +11,7 @@ use borrow.Author.Tests.{eqb-true, ltb-true}
 use Rattle.reader.specs.Token.{same_text}
 use Rattle.reader.specs.Ops.{spell, Entry, prefix_op, infix_op, Table, operators, find_pre, find_inf, is_comma, is_minus, prefix_of, infix_of}
 use Rattle.reader.specs.Roles.{prefix_role, infix_role, roles_of}
-use Rattle.reader.specs.Names.{space, trimmed, entry_at, prefix_in, infix_in, starts_operator}
+use Rattle.reader.specs.Names.{space, trimmed, entry_at, prefix_in, infix_in}
 use Rattle.reader.specs.declared.roles.Prefix.TheVariants.{Absent as noPrefix}
 use Rattle.reader.specs.declared.roles.Infix.TheVariants.{Absent as noInfix}
 use Rattle.reader.specs.declared.roles.Roles.{Roles}

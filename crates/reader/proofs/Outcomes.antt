@@ -23,7 +23,7 @@ use Rattle.reader.specs.Clause.{Gathered, whole, stopped, too_many, clause_token
 use Rattle.reader.specs.Gather.{Left, leaves, nodes_of, machine_after, latest_from, came, written, by_nodes, by_tokens, answered, left_by, clause_by}
 use Rattle.reader.specs.declared.clause.Verdict.{Verdict}
 use Rattle.reader.specs.declared.clause.ClauseAnswer.{ClauseAnswer}
-use Rattle.reader.specs.declared.clause.ClauseAnswer.TheVariants.{Read, Refused}
+use Rattle.reader.specs.declared.clause.ClauseAnswer.TheVariants.{Refused}
 use Rattle.reader.proofs.Answer.{laid-length}
 use Rattle.reader.proofs.Basics.{push}
 use Rattle.reader.proofs.Complete.{complete}

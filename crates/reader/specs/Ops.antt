@@ -1,7 +1,6 @@
 -- Operators (ISO 6.3.4.3): roles, tables, and document 01's table. Assumes nothing.
 use Rattle.std.specs.Prelude.{ℕ, ◌+◌, ◌≡◌, Bool, true, false, cond, List, [], ◌∷◌}
 use Prim.Native.Char.{code}
-use Prim.Native.String
 use Prim.Native.String.{String}
 use Rattle.std.proofs.Math.Option.{Option, none, some}
 use Rattle.reader.specs.Token.{Terminal, name, stop, comma, same_text}

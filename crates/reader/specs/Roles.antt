@@ -1,5 +1,5 @@
 -- The roles of a name by a table, as the code has them. Assumes nothing.
-use Rattle.std.specs.Prelude.{ℕ, Bool, false, List}
+use Rattle.std.specs.Prelude.{ℕ, List}
 use Rattle.std.proofs.Math.Option.{Option, none, some}
 use Rattle.reader.specs.Ops.{Pre, fx, fy, Inf, xfx, xfy, yfx, Table, is_minus, prefix_of, infix_of}
 use Rattle.reader.specs.declared.roles.Prefix.{Prefix}

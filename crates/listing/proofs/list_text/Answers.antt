@@ -1,4 +1,3 @@
-use Prim.Native.Nat.{◌-◌}
 use borrow.Author.Rules.{rules}
 use lib.Seq.{length_front}
 use Rattle.listing.proofs.list_text.Invariants.{nearer, begin, under, lent, kept, fits, placed_again, ended, read_on}

@@ -1,4 +1,3 @@
-use Prim.Native.Nat.{◌-◌}
 use borrow.Author.Rules.{rules}
 use Rattle.chunks.proofs.pass.pass_layout.Invariants.{able, begun, here, run-ahead, run_inside, run_able, run-on, run_less, starts, waits, refuses, ended}
 use Rattle.chunks.proofs.pass.pass_layout.Goals as goal

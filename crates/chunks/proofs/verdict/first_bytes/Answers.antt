@@ -1,4 +1,3 @@
-use Prim.Native.Nat.{◌-◌}
 use borrow.Author.Rules.{rules}
 use Rattle.chunks.proofs.verdict.first_bytes.Invariants.{begun, there, room, more, done}
 use Rattle.chunks.proofs.verdict.first_bytes.Goals as goal

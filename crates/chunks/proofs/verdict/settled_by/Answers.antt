@@ -1,5 +1,4 @@
 -- `chunks::verdict::settled_by` meets its contract. Assumes nothing.
-use Prim.Native.Nat.{◌-◌}
 use mathlib.Core.Path.{◌≡◌}
 use borrow.Author.Rules.{rules}
 use Rattle.lexer.specs.declared.refusal.Fault.{Fault}

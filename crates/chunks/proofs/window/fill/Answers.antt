@@ -1,4 +1,3 @@
-use Prim.Native.Nat.{◌-◌}
 use borrow.Author.Rules.{rules}
 use Rattle.chunks.proofs.Pasted.{window_same, more_there, room_there, one_pasted}
 use Rattle.chunks.proofs.window.fill.Invariants.{begun, ended, behind}

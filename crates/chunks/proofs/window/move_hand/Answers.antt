@@ -1,4 +1,3 @@
-use Prim.Native.Nat.{◌-◌}
 use borrow.Author.Rules.{rules}
 use Rattle.chunks.proofs.Pasted.{window_same, room_there, all_pasted}
 use Rattle.chunks.proofs.window.move_hand.Invariants.{stays, begun, source, moved}

@@ -1,4 +1,3 @@
-use Prim.Native.Nat.{◌-◌}
 use borrow.Author.Rules.{rules}
 use Rattle.lexer.proofs.digits.read_digits.Invariants.{start, based, ended, stopped, one_digit, more}
 use Rattle.lexer.proofs.digits.read_digits.Goals as goal

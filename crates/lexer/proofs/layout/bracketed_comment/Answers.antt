@@ -7,7 +7,7 @@ use borrow.Author.Rules.{rules}
 use lib.ListN.{length}
 use mir.Syntax.{w64}
 use mir.Val.{Fits}
-use Rattle.lexer.specs.Chars.{newline, slash, star}
+use Rattle.lexer.specs.Chars.{slash, star}
 use Rattle.lexer.specs.Cursor.{move_to, along, Along}
 use Rattle.lexer.specs.Layout.{comment_text, comment_opened, bracketed_comment, moved, Opening, Inside}
 use Rattle.lexer.specs.Look.{lookahead}

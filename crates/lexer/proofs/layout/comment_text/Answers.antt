@@ -1,4 +1,3 @@
-use Prim.Native.Nat.{◌-◌}
 use borrow.Author.Rules.{rules}
 use Rattle.lexer.proofs.layout.comment_text.Invariants.{started, can_skip_along, ended, foreign, can_skip, other, less, starred, linked, can_skip_behind, less_behind, less_outer, stars, ended-behind, foreign_behind, closed, other_behind}
 use Rattle.lexer.proofs.layout.comment_text.Goals as goal

@@ -1,4 +1,3 @@
-use Prim.Native.Nat.{◌-◌}
 use borrow.Author.Rules.{rules}
 use Rattle.lexer.proofs.Layouts.{later_here}
 use Rattle.lexer.proofs.layout.scan_for_layout.Invariants.{can_skip, there, refused, none, more, less}

@@ -1,4 +1,3 @@
-use Prim.Native.Nat.{◌-◌}
 use borrow.Author.Rules.{rules}
 use Rattle.lexer.proofs.layout.single_line_comment.Invariants.{can_skip_along, ended, foreign, can_skip, closed, more, less}
 use Rattle.lexer.proofs.layout.single_line_comment.Goals as goal

@@ -1,4 +1,3 @@
-use Prim.Native.Nat.{◌-◌}
 use borrow.Author.Rules.{rules}
 use Rattle.lexer.proofs.layout_call.past_blanks.Invariants.{begins, ended, can_skip, stops, on, less}
 use Rattle.lexer.proofs.layout_call.past_blanks.Goals as goal

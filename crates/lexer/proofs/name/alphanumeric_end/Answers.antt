@@ -1,4 +1,3 @@
-use Prim.Native.Nat.{◌-◌}
 use borrow.Author.Rules.{rules}
 use Rattle.lexer.proofs.Runs.{run-ended, run-stops, run-on}
 use Rattle.lexer.proofs.name.alphanumeric_end.Goals as goal

@@ -1,4 +1,3 @@
-use Prim.Native.Nat.{◌-◌}
 use borrow.Author.Rules.{rules}
 use Rattle.lexer.proofs.Runs.{of_class, run-ended, run-stops, run-on}
 use Rattle.lexer.proofs.name.graphic_end.Goals as goal

@@ -1,4 +1,3 @@
-use Prim.Native.Nat.{◌-◌}
 use borrow.Author.Rules.{rules}
 use Rattle.lexer.proofs.quoted.measure_quoted.Invariants.{begin, stretch_before, stretch_along, stretch_fits, refuse, close-along, out, done, skip_first, skip_second, skip, skip_less, char_along, char_fits, char, char_less, beyond-along, out-of-limit, beyond_less}
 use Rattle.lexer.proofs.quoted.measure_quoted.Goals as goal

@@ -1,4 +1,3 @@
-use Prim.Native.Nat.{◌-◌}
 use borrow.Author.Rules.{rules}
 use Rattle.lexer.proofs.quoted.write_quoted.Invariants.{begin, done, refuse, close, beyond, skip, skip_less, inside, fits, char, char_less}
 use Rattle.lexer.proofs.quoted.write_quoted.Goals as goal

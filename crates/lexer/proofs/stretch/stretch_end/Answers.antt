@@ -1,4 +1,3 @@
-use Prim.Native.Nat.{◌-◌}
 use borrow.Author.Rules.{rules}
 use Rattle.lexer.proofs.stretch.stretch_end.Invariants.{ended, stops, onward}
 use Rattle.lexer.proofs.stretch.stretch_end.Goals as goal

@@ -1,4 +1,3 @@
-use Prim.Native.Nat.{◌-◌}
 use borrow.Author.Rules.{rules}
 use Rattle.pack.proofs.clause_call.line_at.Invariants.{inside, begin, small, again, ended}
 use Rattle.pack.proofs.clause_call.line_at.Goals as goal

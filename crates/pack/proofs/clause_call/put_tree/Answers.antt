@@ -1,6 +1,4 @@
-use Prim.Native.Nat.{◌-◌}
 use borrow.Author.Rules.{rules}
-use Rattle.pack.proofs.Clauses as K
 use Rattle.pack.proofs.clause_call.put_tree.Invariants.{begin, ended, node_at, node_asked, place-fits, size_fits, again}
 use Rattle.pack.proofs.clause_call.put_tree.Goals as goal
 

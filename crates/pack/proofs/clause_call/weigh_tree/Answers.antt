@@ -1,6 +1,4 @@
-use Prim.Native.Nat.{◌-◌}
 use borrow.Author.Rules.{rules}
-use Rattle.pack.proofs.Clauses as K
 use Rattle.pack.proofs.clause_call.weigh_tree.Invariants.{begin, ended, node_at, again}
 use Rattle.pack.proofs.clause_call.weigh_tree.Goals as goal
 

@@ -1,4 +1,3 @@
-use Prim.Native.Nat.{◌-◌}
 use borrow.Author.Rules.{rules}
 use Rattle.pack.proofs.reading.put_numbers.Invariants.{begin, ended, inside, put_asked, again}
 use Rattle.pack.proofs.reading.put_numbers.Goals as goal

@@ -1,4 +1,3 @@
-use Prim.Native.Nat.{◌-◌}
 use borrow.Author.Rules.{rules}
 use Rattle.pack.proofs.reading.scan.Invariants.{begin, five_inside, short, long, never, fewer, again, over, ended}
 use Rattle.pack.proofs.reading.scan.Goals as goal

@@ -1,4 +1,3 @@
-use Prim.Native.Nat.{◌-◌}
 use borrow.Author.Rules.{rules}
 use Rattle.pack.proofs.writing.put_nodes.Invariants.{begin, ended, four-inside, node_asked, again, at-fits, size_fits}
 use Rattle.pack.proofs.writing.put_nodes.Goals as goal

@@ -1,4 +1,3 @@
-use Prim.Native.Nat.{◌-◌}
 use borrow.Author.Rules.{rules}
 use Rattle.pack.proofs.writing.put_part.Invariants.{begin, ended, read_in, write_in, again}
 use Rattle.pack.proofs.writing.put_part.Goals as goal

@@ -1,5 +1,3 @@
-use Prim.Native.Nat.{◌-◌}
-use mathlib.Core.Bool.{not}
 use borrow.Author.Rules.{rules}
 use Rattle.pack.proofs.writing.weigh.Invariants.{begin, four-inside, heavy, outside, never, fewer, again, one_tree, not-one}
 use Rattle.pack.proofs.writing.weigh.Goals as goal

@@ -1,4 +1,3 @@
-use Prim.Native.Nat.{◌-◌}
 use Rattle.probe.proofs.Onward.{answer_nearer}
 use borrow.Author.Rules.{rules}
 use Rattle.probe.proofs.answers.clause_cases.Goals as goal

@@ -1,4 +1,3 @@
-use Prim.Native.Nat.{◌-◌}
 use Rattle.probe.proofs.Onward.{nearer}
 use borrow.Author.Rules.{rules}
 use Rattle.probe.proofs.answers.token_lines.Goals as goal

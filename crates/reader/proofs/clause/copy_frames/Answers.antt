@@ -1,4 +1,3 @@
-use Prim.Native.Nat.{◌-◌}
 use borrow.Author.Rules.{rules}
 use Rattle.reader.proofs.Fronts.{none_yet, all_copied, word_there, left_less, one_copied}
 use Rattle.reader.proofs.clause.copy_frames.Goals as goal

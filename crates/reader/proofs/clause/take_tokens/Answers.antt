@@ -1,7 +1,4 @@
-use Prim.Native.Nat.{◌-◌}
 use borrow.Author.Rules.{rules}
-use Rattle.lexer.specs.declared.token.Token as lexer
-use Rattle.reader.specs.Machine as M
 use Rattle.reader.proofs.clause.take_tokens.Invariants.{started, pauses, less, next_fits, room, stops, read_there, ends, again}
 use Rattle.reader.proofs.clause.take_tokens.Goals as goal
 

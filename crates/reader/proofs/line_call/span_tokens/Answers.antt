@@ -1,6 +1,4 @@
-use Prim.Native.Nat.{◌-◌}
 use borrow.Author.Rules.{rules}
-use Rattle.lexer.specs.declared.token.Token as lexer
 use Rattle.reader.proofs.line_call.span_tokens.Invariants.{begin, starts_kept, ends_kept, full, start_there, end_there, less, halted, narrow_start, narrow_end, ended, again}
 use Rattle.reader.proofs.line_call.span_tokens.Goals as goal
 

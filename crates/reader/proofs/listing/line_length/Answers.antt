@@ -1,4 +1,3 @@
-use Prim.Native.Nat.{◌-◌}
 use borrow.Author.Rules.{rules}
 use Rattle.reader.proofs.listing.line_length.Invariants.{first, second, begin, doubled, done, under, fits_one, fits-two, asks, short, fits_sum, again}
 use Rattle.reader.proofs.listing.line_length.Goals as goal

@@ -1,4 +1,3 @@
-use Prim.Native.Nat.{◌-◌}
 use borrow.Author.Rules.{rules}
 use Rattle.reader.proofs.listing.put_part.Invariants.{begin, long, done, some_left, read, write, on}
 use Rattle.reader.proofs.listing.put_part.Goals as goal

@@ -9,7 +9,6 @@ use Rattle.reader.specs.Layout.{frames_of, out_of, red_of}
 use Rattle.reader.proofs.Stacks.{plain_node}
 use Rattle.reader.proofs.Rooms.{held_room, held_noded}
 use Rattle.reader.specs.declared.machine.Spot.{Spot}
-use Rattle.reader.specs.declared.machine.Stop.{Stop}
 use Rattle.reader.specs.Token
 use Rattle.reader.proofs.machine.alone_step.Goals as goal
 

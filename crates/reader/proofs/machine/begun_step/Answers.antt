@@ -9,10 +9,8 @@ use Rattle.reader.specs.Machine.{nd, Out, Frames, opened, inside, shuts, empty_k
 use Rattle.reader.specs.Layout.{stop_as, halt_of}
 use Rattle.reader.proofs.Rooms.{room_one}
 use Rattle.reader.specs.declared.machine.Stop.{Stop}
-use Rattle.reader.specs.declared.machine.Sight.{Sight}
 use Rattle.reader.specs.declared.machine.Halt.{Halt}
 use Rattle.reader.specs.declared.machine.Halt.TheVariants.{Goes, Stopped}
-use Rattle.reader.specs.declared.machine.Shape.{Shape}
 use Rattle.reader.specs.Machine as M
 use Rattle.reader.proofs.machine.begun_step.Goals as goal
 

@@ -8,7 +8,6 @@ use Rattle.reader.specs.Machine.{State, closing}
 use Rattle.reader.specs.Layout.{frames_of, out_of, red_of}
 use Rattle.reader.proofs.Rooms.{held_reduced, held_room}
 use Rattle.reader.specs.declared.machine.Spot.{Spot}
-use Rattle.reader.specs.declared.machine.Stop.{Stop}
 use Rattle.reader.specs.Token
 use Rattle.reader.specs.Machine as M
 use Rattle.reader.proofs.machine.close_place.Goals as goal

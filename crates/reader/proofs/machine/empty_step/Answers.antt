@@ -8,7 +8,6 @@ use Rattle.reader.specs.Tree.{kind_number, packed}
 use Rattle.reader.specs.Machine.{nd, Out, Frames, squares, braces, shuts, empty_kind, State, have, dead}
 use Rattle.reader.specs.Layout.{shape_of, state_of}
 use Rattle.reader.proofs.Stacks.{empty_list_node, empty_curly_node}
-use Rattle.reader.specs.declared.machine.Stop.{Stop}
 use Rattle.reader.specs.declared.machine.Shape.{Shape}
 use Rattle.reader.specs.declared.machine.Shape.TheVariants.{Squares, Braces}
 use Rattle.reader.specs.declared.machine.Mode.TheVariants.{Dead}

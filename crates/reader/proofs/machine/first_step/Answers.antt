@@ -7,7 +7,6 @@ use borrow.Author.Rules.{rules}
 use Rattle.reader.specs.Tree.{packed}
 use Rattle.reader.specs.Machine.{Out, Frames, opened, bound, inside, State, want_step}
 use Rattle.reader.specs.Layout.{curly_tag, list_tag, bracket_as, frame_as, shape_of, Small}
-use Rattle.reader.specs.declared.machine.Sight.{Sight}
 use Rattle.reader.specs.declared.machine.Shape.{Shape}
 use Rattle.reader.specs.declared.machine.Shape.TheVariants.{Squares, Braces}
 use Rattle.reader.specs.Machine as M

@@ -9,7 +9,6 @@ use Rattle.reader.specs.Layout.{pre_of, stop_as, halt_of}
 use Rattle.reader.proofs.Rooms.{held_room, held_one}
 use Rattle.reader.specs.declared.machine.Stop.{Stop}
 use Rattle.reader.specs.declared.roles.Prefix.{Prefix}
-use Rattle.reader.specs.declared.machine.Sight.{Sight}
 use Rattle.reader.specs.declared.machine.Halt.{Halt}
 use Rattle.reader.specs.declared.machine.Halt.TheVariants.{Goes, Stopped}
 use Rattle.reader.specs.Machine as M

@@ -11,7 +11,6 @@ use Rattle.reader.specs.Layout.{pre_of, inf_of}
 use Rattle.reader.proofs.Rooms.{held_room_one}
 use Rattle.reader.specs.declared.roles.Prefix.{Prefix}
 use Rattle.reader.specs.declared.roles.Infix.{Infix}
-use Rattle.reader.specs.declared.machine.Sight.{Sight}
 use Rattle.reader.specs.Machine as M
 use Rattle.reader.proofs.machine.pend_step.Goals as goal
 

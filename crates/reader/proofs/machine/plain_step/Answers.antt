@@ -9,7 +9,6 @@ use Rattle.reader.specs.Layout.{frames_of, out_of, red_of}
 use Rattle.reader.proofs.Stacks.{plain_node}
 use Rattle.reader.proofs.Rooms.{held_room_one, held_noded}
 use Rattle.reader.specs.declared.machine.Spot.{Spot}
-use Rattle.reader.specs.declared.machine.Sight.{Sight}
 use Rattle.reader.specs.Machine as M
 use Rattle.reader.proofs.machine.plain_step.Goals as goal
 

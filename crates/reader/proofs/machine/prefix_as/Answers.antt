@@ -9,7 +9,6 @@ use Rattle.reader.specs.Tree.{packed}
 use Rattle.reader.specs.Machine.{Out, Frames, bound, State, lt?, want_step, prefix_as}
 use Rattle.reader.specs.Layout.{prefix_tag, frame_as, state_of, Small}
 use Rattle.reader.proofs.Rooms.{depth_in}
-use Rattle.reader.specs.declared.machine.Sight.{Sight}
 use Rattle.reader.specs.declared.machine.Mode.TheVariants.{Dead}
 use Rattle.reader.specs.Machine as M
 use Rattle.reader.proofs.machine.prefix_as.Goals as goal

@@ -9,7 +9,6 @@ use Rattle.reader.specs.Machine.{Out, Frames, State, prefix_as, prefix_step}
 use Rattle.reader.specs.Layout.{pre_of, state_of}
 use Rattle.reader.specs.declared.roles.Prefix.{Prefix}
 use Rattle.reader.specs.declared.roles.Prefix.TheVariants.{Fx, Fy, Absent as NoPrefix}
-use Rattle.reader.specs.declared.machine.Sight.{Sight}
 use Rattle.reader.specs.declared.machine.Mode.TheVariants.{Dead}
 use Rattle.reader.specs.Machine as M
 use Rattle.reader.proofs.machine.prefix_step.Goals as goal

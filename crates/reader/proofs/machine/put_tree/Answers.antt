@@ -1,4 +1,3 @@
-use Prim.Native.Nat.{◌-◌}
 use borrow.Author.Rules.{rules}
 use Rattle.reader.proofs.machine.put_tree.Invariants.{begin, ended, word_in, first_in, second_in, goes}
 use Rattle.reader.proofs.machine.put_tree.Goals as goal

@@ -1,6 +1,4 @@
-use Prim.Native.Nat.{◌-◌}
 use borrow.Author.Rules.{rules}
-use Rattle.reader.specs.Machine as M
 use Rattle.reader.proofs.machine.reduce.Invariants.{begin, ended, bracket, stays, goes}
 use Rattle.reader.proofs.machine.reduce.Goals as goal
 

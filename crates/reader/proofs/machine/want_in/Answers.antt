@@ -4,7 +4,7 @@ use mathlib.Core.Path.{◌≡◌}
 use mathlib.Core.List.{List, ◌∷◌}
 use native.Mathlib.Omega.{arith}
 use borrow.Author.Rules.{rules}
-use Rattle.reader.specs.Machine.{Frame, red, bound, want}
+use Rattle.reader.specs.Machine.{Frame, red, want}
 use Rattle.reader.specs.Layout.{frames_of, out_of, red_of, state_of, Small}
 use Rattle.reader.specs.declared.machine.Spot.{Spot}
 use Rattle.reader.specs.declared.machine.Mode.TheVariants.{Want}

@@ -8,7 +8,6 @@ use Rattle.reader.specs.Machine.{Frame, red, State, want_step}
 use Rattle.reader.specs.Layout.{frames_of, out_of, red_of}
 use Rattle.reader.proofs.Rooms.{room_one, room_framed}
 use Rattle.reader.specs.declared.machine.Spot.{Spot}
-use Rattle.reader.specs.declared.machine.Sight.{Sight}
 use Rattle.reader.specs.Machine as M
 use Rattle.reader.proofs.machine.want_under.Goals as goal
 
