@@ -1,4 +1,4 @@
-"""The probe's format (docs/PROBE.md) for the scripts: a case as it is put to it, and what a program that `rt check` built says."""
+"""The probe's format (docs/PROBE.md) for the scripts: a case as it is put to it, and what a program that tools/build built says."""
 import subprocess
 from pathlib import Path
 
@@ -41,8 +41,8 @@ def refused_line(number, at, given):
 
 
 def built(name):
-    """The command that runs target/bin/NAME, also where the processor is no x86-64."""
-    return [ROOT / "tools" / "run-program", ROOT / "target" / "bin" / name]
+    """The command that runs target/bin/NAME."""
+    return [ROOT / "target" / "bin" / name]
 
 
 def lines_said(command, given):
