@@ -42,7 +42,7 @@ table =
     ∷ (of "" 1025 small_a [], (15, 0))
     ∷ (of "" 1024 small_a (1 ∷ []), (5, 1024))
     ∷ (of "" 1025 small_a (1 ∷ []), (15, 0))
-    -- the byte that shows refusal 6, or 4 (`border-quoted`), is the token's own
+    -- the byte that shows refusal 6, or 4 (`border_quoted`), is the token's own
     ∷ (of "" 1023 digit_zero (bytes "_"), (6, 0))
     ∷ (of "" 1024 digit_zero (bytes "_"), (15, 0))
     -- a point that is put back, and one that is not

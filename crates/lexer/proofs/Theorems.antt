@@ -178,7 +178,7 @@ module _ (s : List ℕ) (c : Cursor) where
   pub token-laid_out : (origin : Source) (t : Token) (next : Cursor) → next_token origin s c ≡ Answer.Read t next → LaidBefore s c t
   token-laid_out = laid_before s c
 
--- ---- what the clause reader relies on, besides `token-promises`
+-- ---- what the clause reader relies on, besides `token_promises`
 
 -- what was read from an offset on, in a file or a field: the token t, which ends at e
 module _ (origin : Source) (s : List ℕ) (from : ℕ) (t : Token) (e : ℕ) where

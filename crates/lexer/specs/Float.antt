@@ -40,7 +40,7 @@ pub record Limits (m : ℕ) (s : Scale) : Type 0 where
   pub digits : m ≤ largest_digits
   pub power : s.tens ≤ largest_tens
 
--- the fraction rounded once: that it is 01's "one double nearest", and no other is, is `value-nearest` and `value-only` of `proofs/float/Values`
+-- the fraction rounded once: that it is 01's "one double nearest", and no other is, is `value-nearest` and `value_only` of `proofs/float/Values`
 abbrev pub value : ℕ → Scale → Float
 value m s = round binary64 false (over m s) (under s)
 

@@ -1,4 +1,4 @@
--- The double that `round` gives is nearest (`round-nearest`), and no other is (`nearest-unique`). Assumes nothing.
+-- The double that `round` gives is nearest (`round-nearest`), and no other is (`nearest_unique`). Assumes nothing.
 -- A finite double is c * 2 ^ r units, with c below 2 ^ 53 and the format's smallest value, 2 ^ -1074, as the unit; so `Grid` decides.
 use Prim.Native.Nat.{ℕ, zero, suc, ◌+◌, ◌-◌, ◌*◌, ◌/◌, ◌%◌, ◌^◌, ◌≤◌, ◌<◌, zero-le}
 use mathlib.Core.Path.{◌≡◌, refl, sym, ◌∙◌, ap, subst}

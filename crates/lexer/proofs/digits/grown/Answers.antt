@@ -11,7 +11,7 @@ use Rattle.lexer.proofs.digits.grown.Goals as goal
 
 module _ (v base d : ℕ) (b : Based base v) where
   module _ (h : v < 576460752303423488) where
-    -- a small value: 576460752303423487 * 16 + 16 is no more than `largestMagnitude`
+    -- a small value: 576460752303423487 * 16 + 16 is no more than `largest_magnitude`
     product : v * base ≤ 9223372036854775792
     product = let m : v ≤ 576460752303423487 = omega arith in mul-le-mul m b.few
 
