@@ -5,9 +5,6 @@ use Rattle.listing.proofs.list_text.Goals as goal
 
 ruleset ways = (begin, under, lent, kept, fits, placed_again, ended, read_on, nearer, length_front, rules)
 
-pub loop-fault-init : goal.loop-fault-init
-loop-fault-init c = search ways
-
 pub returns-in-Refused : goal.returns-in-Refused
 returns-in-Refused c = search ways
 

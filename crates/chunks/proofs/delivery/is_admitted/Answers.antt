@@ -5,14 +5,8 @@ use Rattle.chunks.proofs.delivery.is_admitted.Goals as goal
 
 ruleset ways = (admit_some, admit_fits, admit_short, admit_ended, admit_open, admit_none, rules)
 
-pub returns-then-ended : goal.returns-then-ended
-returns-then-ended c = search ways
-
 pub returns-then-is_sound : goal.returns-then-is_sound
 returns-then-is_sound c = search ways
-
-pub returns : goal.returns
-returns c = search ways
 
 pub overflow_add-result : goal.overflow_add-result
 overflow_add-result c = search ways

@@ -43,17 +43,5 @@ module _ (r : Reader) where
 
 ruleset ways = (backwards, outside, too_far, late_layout, tested, rules)
 
-pub returns-then-reader : goal.returns-then-reader
-returns-then-reader c = search ways
-
-pub returns-then-reader-ge-WINDOW : goal.returns-then-reader-ge-WINDOW
-returns-then-reader-ge-WINDOW c = search ways
-
 pub returns-then-cursor-gt-LONGEST : goal.returns-then-cursor-gt-LONGEST
 returns-then-cursor-gt-LONGEST c = search ways
-
-pub returns-then-cursor-reader : goal.returns-then-cursor-reader
-returns-then-cursor-reader c = search ways
-
-pub returns : goal.returns
-returns c = search ways

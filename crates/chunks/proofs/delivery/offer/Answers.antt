@@ -25,11 +25,5 @@ module _ (w : List ℕ) (r : Reader) (ended t : Bool) where
 
 ruleset ways = (may_come, takes-it, refuses_it, rules)
 
-pub returns-then-is_admitted : goal.returns-then-is_admitted
-returns-then-is_admitted c = search ways
-
-pub returns : goal.returns
-returns c = search ways
-
 pub take_chunk-requires : goal.take_chunk-requires
 take_chunk-requires c = search ways

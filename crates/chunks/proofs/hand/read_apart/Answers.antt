@@ -5,9 +5,6 @@ use Rattle.chunks.proofs.hand.read_apart.Goals as goal
 
 ruleset ways = (held-some, held-inside, held_passable, held_starts, held_starts_tells, held_waits_tells, held-stops_tells, rules)
 
-pub returns-in-Starts : goal.returns-in-Starts
-returns-in-Starts c = search ways
-
 pub returns-in-Waits : goal.returns-in-Waits
 returns-in-Waits c = search ways
 

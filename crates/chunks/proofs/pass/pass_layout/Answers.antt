@@ -4,9 +4,6 @@ use Rattle.chunks.proofs.pass.pass_layout.Goals as goal
 
 ruleset ways = (begun, here, able, run-ahead, run_inside, run_able, run-on, run_less, starts, waits, refuses, ended, rules)
 
-pub loop-at-init : goal.loop-at-init
-loop-at-init c = search ways
-
 pub loop-at-preserved : goal.loop-at-preserved
 loop-at-preserved c = search ways
 

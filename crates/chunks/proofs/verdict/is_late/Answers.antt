@@ -32,11 +32,5 @@ module _ (s : List ℕ) (p : Viewed s 1024) (layout : Bool) (a : Answer) (t : Bo
 
 ruleset ways = (some_there, cut-1024, other, few, many, rules)
 
-pub returns-then-n-lt-LONGEST_TOKEN : goal.returns-then-n-lt-LONGEST_TOKEN
-returns-then-n-lt-LONGEST_TOKEN c = search ways
-
 pub returns-then-own_byte : goal.returns-then-own_byte
 returns-then-own_byte c = search ways
-
-pub returns : goal.returns
-returns c = search ways

@@ -5,11 +5,5 @@ use Rattle.chunks.proofs.window.fill.Goals as goal
 
 ruleset ways = (begun, window_same, more_there, room_there, one_pasted, ended, behind, rules)
 
-pub loop-i-init : goal.loop-i-init
-loop-i-init c = search ways
-
 pub loop-i-preserved : goal.loop-i-preserved
 loop-i-preserved c = search ways
-
-pub returns : goal.returns
-returns c = search ways

@@ -5,14 +5,5 @@ use Rattle.chunks.proofs.window.move_hand.Goals as goal
 
 ruleset ways = (stays, begun, window_same, source, room_there, moved, all_pasted, rules)
 
-pub returns-then-place-from : goal.returns-then-place-from
-returns-then-place-from c = search ways
-
-pub loop-i-init : goal.loop-i-init
-loop-i-init c = search ways
-
 pub loop-i-preserved : goal.loop-i-preserved
 loop-i-preserved c = search ways
-
-pub returns : goal.returns
-returns c = search ways

@@ -43,8 +43,5 @@ returns-then-b-eq96 c = search ways
 pub returns-then-between : goal.returns-then-between
 returns-then-between c = search ways
 
-pub returns-then-is_digit : goal.returns-then-is_digit
-returns-then-is_digit c = search ways
-
 pub returns : goal.returns
 returns c = search ways

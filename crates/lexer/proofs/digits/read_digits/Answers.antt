@@ -4,9 +4,6 @@ use Rattle.lexer.proofs.digits.read_digits.Goals as goal
 
 ruleset ways = (start, based, ended, stopped, one_digit, more, rules)
 
-pub loop-at-init : goal.loop-at-init
-loop-at-init c = search ways
-
 pub returns-then-base-d : goal.returns-then-base-d
 returns-then-base-d c = search ways
 

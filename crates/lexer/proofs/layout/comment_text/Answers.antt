@@ -4,9 +4,6 @@ use Rattle.lexer.proofs.layout.comment_text.Goals as goal
 
 ruleset ways = (started, can_skip_along, ended, foreign, can_skip, other, less, starred, linked, ended-behind, foreign_behind, can_skip_behind, closed, less_behind, less_outer, stars, other_behind, rules)
 
-pub comment-init : goal.comment-init
-comment-init c = search ways
-
 pub returns-in-End : goal.returns-in-End
 returns-in-End c = search ways
 

@@ -5,9 +5,6 @@ use Rattle.lexer.proofs.layout.scan_for_layout.Goals as goal
 
 ruleset ways = (later_here, can_skip, there, refused, none, more, less, rules)
 
-pub loop-fault-init : goal.loop-fault-init
-loop-fault-init c = search ways
-
 pub returns-in-Refused : goal.returns-in-Refused
 returns-in-Refused c = search ways
 

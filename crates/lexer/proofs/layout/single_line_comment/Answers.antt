@@ -4,9 +4,6 @@ use Rattle.lexer.proofs.layout.single_line_comment.Goals as goal
 
 ruleset ways = (can_skip_along, ended, foreign, can_skip, closed, more, less, rules)
 
-pub loop-b-init : goal.loop-b-init
-loop-b-init c = search ways
-
 pub returns-in-End : goal.returns-in-End
 returns-in-End c = search ways
 

@@ -32,6 +32,3 @@ returns-in-Refused c = search ways
 
 pub returns-in-Absent : goal.returns-in-Absent
 returns-in-Absent c = search ways
-
-pub returns-in-To : goal.returns-in-To
-returns-in-To c = search ways

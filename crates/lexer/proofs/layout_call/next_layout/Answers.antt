@@ -25,11 +25,5 @@ module _ (s : List ℕ) (c : Cursor) (t : Bool) (e : t ≡ valid (length s) c) w
 
 ruleset ways = (tested-valid, read, refused, rules)
 
-pub returns-then-is_valid : goal.returns-then-is_valid
-returns-then-is_valid c = search ways
-
-pub returns-else-is_valid : goal.returns-else-is_valid
-returns-else-is_valid c = search ways
-
 pub layout_at-requires : goal.layout_at-requires
 layout_at-requires c = search ways

@@ -4,9 +4,6 @@ use Rattle.lexer.proofs.layout_call.past_blanks.Goals as goal
 
 ruleset ways = (begins, ended, can_skip, stops, on, less, rules)
 
-pub loop-c-init : goal.loop-c-init
-loop-c-init c = search ways
-
 pub loop-c-preserved : goal.loop-c-preserved
 loop-c-preserved c = search ways
 

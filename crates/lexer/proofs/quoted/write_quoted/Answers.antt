@@ -19,9 +19,6 @@ returns-in-Close c = search ways
 pub loop-i-preserved : goal.loop-i-preserved
 loop-i-preserved c = search ways
 
-pub returns : goal.returns
-returns c = search ways
-
 pub loop-i-smaller-in-Skip : goal.loop-i-smaller-in-Skip
 loop-i-smaller-in-Skip c = search ways
 

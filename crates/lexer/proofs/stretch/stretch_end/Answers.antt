@@ -4,9 +4,6 @@ use Rattle.lexer.proofs.stretch.stretch_end.Goals as goal
 
 ruleset ways = (stops, onward, ended, rules)
 
-pub loop-at-init : goal.loop-at-init
-loop-at-init c = search ways
-
 pub loop-at-preserved : goal.loop-at-preserved
 loop-at-preserved c = search ways
 

@@ -25,11 +25,5 @@ module _ (s : List ℕ) (c : Cursor) (b : Bool) (v : b ≡ valid (length s) c) (
 
 ruleset ways = (tested-valid, told, not-valid, rules)
 
-pub returns-then-is_valid : goal.returns-then-is_valid
-returns-then-is_valid c = search ways
-
-pub returns : goal.returns
-returns c = search ways
-
 pub text_at-requires : goal.text_at-requires
 text_at-requires c = search ways

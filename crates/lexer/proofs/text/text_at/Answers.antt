@@ -44,8 +44,5 @@ ruleset ways = (refuse, reads, rules)
 pub returns-in-Refused : goal.returns-in-Refused
 returns-in-Refused c = search ways
 
-pub returns-in-Whole : goal.returns-in-Whole
-returns-in-Whole c = search ways
-
 pub token_text-requires : goal.token_text-requires
 token_text-requires c = search ways

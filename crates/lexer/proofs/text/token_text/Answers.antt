@@ -34,6 +34,3 @@ returns-in-Absent c = search ways
 
 pub returns-in-Source : goal.returns-in-Source
 returns-in-Source c = search ways
-
-pub returns-in-Decoded : goal.returns-in-Decoded
-returns-in-Decoded c = search ways

@@ -17,8 +17,5 @@ module _ (t : Bool) (b : ℕ) (r : Bool) (e : r ≡ is_mark (mark false b)) wher
 
 ruleset ways = (a_mark, no-mark, rules)
 
-pub returns-then-is_mark : goal.returns-then-is_mark
-returns-then-is_mark c = search ways
-
 pub returns-else-is_mark : goal.returns-else-is_mark
 returns-else-is_mark c = search ways

@@ -23,11 +23,5 @@ module _ (s : List ℕ) (c : Cursor) (origin : Source) (t : Bool) (e : t ≡ val
 
 ruleset ways = (tested-valid, read, refused, rules)
 
-pub returns-then-is_valid : goal.returns-then-is_valid
-returns-then-is_valid c = search ways
-
-pub returns-else-is_valid : goal.returns-else-is_valid
-returns-else-is_valid c = search ways
-
 pub answer_at-requires : goal.answer_at-requires
 answer_at-requires c = search ways

@@ -24,11 +24,5 @@ module _ (s : List ℕ) (c : Cursor) (layout t : Bool) (e : t ≡ valid (length 
 
 ruleset ways = (tested-valid, read, refused, rules)
 
-pub returns-then-is_valid : goal.returns-then-is_valid
-returns-then-is_valid c = search ways
-
-pub returns-else-is_valid : goal.returns-else-is_valid
-returns-else-is_valid c = search ways
-
 pub answer_here-requires : goal.answer_here-requires
 answer_here-requires c = search ways

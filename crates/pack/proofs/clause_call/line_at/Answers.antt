@@ -4,9 +4,6 @@ use Rattle.pack.proofs.clause_call.line_at.Goals as goal
 
 ruleset ways = (begin, ended, inside, small, again, rules)
 
-pub loop-at-init : goal.loop-at-init
-loop-at-init c = search ways
-
 pub loop-at-preserved : goal.loop-at-preserved
 loop-at-preserved c = search ways
 

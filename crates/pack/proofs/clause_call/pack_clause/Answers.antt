@@ -32,8 +32,5 @@ ruleset ways = (refused, read_tree, rules)
 pub returns-in-Refused : goal.returns-in-Refused
 returns-in-Refused c = search ways
 
-pub returns-in-Read : goal.returns-in-Read
-returns-in-Read c = search ways
-
 pub pack_read-requires : goal.pack_read-requires
 pack_read-requires c = search ways

@@ -4,9 +4,6 @@ use Rattle.pack.proofs.clause_call.put_tree.Goals as goal
 
 ruleset ways = (begin, ended, node_at, node_asked, place-fits, size_fits, again, rules)
 
-pub loop-left-init : goal.loop-left-init
-loop-left-init c = search ways
-
 pub loop-left-preserved : goal.loop-left-preserved
 loop-left-preserved c = search ways
 

@@ -35,6 +35,3 @@ returns-then-image-lt1 c = search ways
 
 pub returns-then-version_of-version_byte : goal.returns-then-version_of-version_byte
 returns-then-version_of-version_byte c = search ways
-
-pub returns : goal.returns
-returns c = search ways

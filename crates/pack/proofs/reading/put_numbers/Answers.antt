@@ -4,9 +4,6 @@ use Rattle.pack.proofs.reading.put_numbers.Goals as goal
 
 ruleset ways = (begin, ended, inside, put_asked, again, rules)
 
-pub loop-left-init : goal.loop-left-init
-loop-left-init c = search ways
-
 pub loop-left-preserved : goal.loop-left-preserved
 loop-left-preserved c = search ways
 

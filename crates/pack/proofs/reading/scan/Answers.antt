@@ -4,9 +4,6 @@ use Rattle.pack.proofs.reading.scan.Goals as goal
 
 ruleset ways = (begin, five_inside, short, long, never, fewer, again, over, ended, rules)
 
-pub loop-left-init : goal.loop-left-init
-loop-left-init c = search ways
-
 pub returns-then-s-at-lt-FRONT : goal.returns-then-s-at-lt-FRONT
 returns-then-s-at-lt-FRONT c = search ways
 

@@ -41,6 +41,3 @@ returns-then-nodes-count c = search ways
 
 pub returns-in-NoTree : goal.returns-in-NoTree
 returns-in-NoTree c = search ways
-
-pub returns-in-Bytes : goal.returns-in-Bytes
-returns-in-Bytes c = search ways

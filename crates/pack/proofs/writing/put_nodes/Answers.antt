@@ -4,9 +4,6 @@ use Rattle.pack.proofs.writing.put_nodes.Goals as goal
 
 ruleset ways = (begin, ended, four-inside, node_asked, at-fits, size_fits, again, rules)
 
-pub loop-left-init : goal.loop-left-init
-loop-left-init c = search ways
-
 pub loop-left-preserved : goal.loop-left-preserved
 loop-left-preserved c = search ways
 

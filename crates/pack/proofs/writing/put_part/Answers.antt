@@ -4,11 +4,5 @@ use Rattle.pack.proofs.writing.put_part.Goals as goal
 
 ruleset ways = (begin, ended, read_in, write_in, again, rules)
 
-pub loop-left-init : goal.loop-left-init
-loop-left-init c = search ways
-
 pub loop-left-preserved : goal.loop-left-preserved
 loop-left-preserved c = search ways
-
-pub returns : goal.returns
-returns c = search ways

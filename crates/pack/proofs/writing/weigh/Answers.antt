@@ -4,9 +4,6 @@ use Rattle.pack.proofs.writing.weigh.Goals as goal
 
 ruleset ways = (begin, four-inside, heavy, outside, never, fewer, again, one_tree, not-one, rules)
 
-pub loop-left-init : goal.loop-left-init
-loop-left-init c = search ways
-
 pub returns-then-it-gt-LONGEST_SPELLING : goal.returns-then-it-gt-LONGEST_SPELLING
 returns-then-it-gt-LONGEST_SPELLING c = search ways
 

@@ -3,9 +3,6 @@ use Rattle.probe.proofs.Taken.{takes-at_most}
 use borrow.Author.Rules.{rules}
 use Rattle.probe.proofs.deliveries.feed_once.Goals as goal
 
-pub returns-then-taken-chunk : goal.returns-then-taken-chunk
-returns-then-taken-chunk c = search rules
-
 pub returns-in-Token : goal.returns-in-Token
 returns-in-Token c = search (takes-at_most, rules)
 

@@ -34,8 +34,5 @@ module _ (s : List ℕ) (c : Cursor) (to : ℕ) (m : Mode) (st ns : List ℕ) (e
 
 ruleset ways = (room, taking, ran, rules)
 
-pub returns : goal.returns
-returns c = search ways
-
 pub take_tokens-requires : goal.take_tokens-requires
 take_tokens-requires c = search ways

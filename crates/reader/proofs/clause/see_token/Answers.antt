@@ -84,9 +84,6 @@ module _ (s : List ℕ) (c : Cursor) (t : lexer.Token) (d : Cursor) (r : ReadFro
 
 ruleset ways = (variable, string, number, round, round_ct, square, brace, close, close-list, close-curly, bar, double-bar, comma, end-mark, rules)
 
-pub returns-in-Name : goal.returns-in-Name
-returns-in-Name c = search ways
-
 pub returns-in-Variable : goal.returns-in-Variable
 returns-in-Variable c = search ways
 

@@ -4,9 +4,6 @@ use Rattle.reader.proofs.clause.take_tokens.Goals as goal
 
 ruleset ways = (started, pauses, less, next_fits, room, stops, read_there, ends, again, rules)
 
-pub loop-index-init : goal.loop-index-init
-loop-index-init c = search ways
-
 pub returns-in-Refused : goal.returns-in-Refused
 returns-in-Refused c = search ways
 

@@ -46,8 +46,5 @@ ruleset ways = (refused, read_tree, rules)
 pub returns-in-Refused : goal.returns-in-Refused
 returns-in-Refused c = search ways
 
-pub returns-in-Read : goal.returns-in-Read
-returns-in-Read c = search ways
-
 pub write_line-requires : goal.write_line-requires
 write_line-requires c = search ways

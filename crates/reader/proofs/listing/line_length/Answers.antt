@@ -4,9 +4,6 @@ use Rattle.reader.proofs.listing.line_length.Goals as goal
 
 ruleset ways = (begin, doubled, done, under, first, second, fits_one, fits-two, asks, short, fits_sum, again, rules)
 
-pub loop-at-init : goal.loop-at-init
-loop-at-init c = search ways
-
 pub returns-then-room-length : goal.returns-then-room-length
 returns-then-room-length c = search ways
 

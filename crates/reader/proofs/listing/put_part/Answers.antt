@@ -4,9 +4,6 @@ use Rattle.reader.proofs.listing.put_part.Goals as goal
 
 ruleset ways = (begin, long, done, some_left, read, write, on, rules)
 
-pub loop-i-init : goal.loop-i-init
-loop-i-init c = search ways
-
 pub loop-i-preserved : goal.loop-i-preserved
 loop-i-preserved c = search ways
 

@@ -19,8 +19,5 @@ closed st ns ns' s q x b z e f = cc
 
 ruleset ways = (closed, held_room, held_reduced, rules)
 
-pub returns : goal.returns
-returns c = search ways
-
 pub close_with-requires : goal.close_with-requires
 close_with-requires c = search ways

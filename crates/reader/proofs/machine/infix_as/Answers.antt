@@ -18,8 +18,5 @@ pushed st ns ns' s q i p b left z e f = cc
 
 ruleset ways = (room_none, pushed, room_reduced, rules)
 
-pub returns : goal.returns
-returns c = search ways
-
 pub push_infix-requires-clause-room : goal.push_infix-requires-clause-room
 push_infix-requires-clause-room c = search ways

@@ -9,6 +9,3 @@ loop-j-init c = search ways
 
 pub loop-j-preserved : goal.loop-j-preserved
 loop-j-preserved c = search ways
-
-pub returns : goal.returns
-returns c = search ways

@@ -4,9 +4,6 @@ use Rattle.reader.proofs.machine.reduce.Goals as goal
 
 ruleset ways = (begin, ended, bracket, stays, goes, rules)
 
-pub loop-depth-init : goal.loop-depth-init
-loop-depth-init c = search ways
-
 pub returns-then-tag-gt-INFIX : goal.returns-then-tag-gt-INFIX
 returns-then-tag-gt-INFIX c = search ways
 

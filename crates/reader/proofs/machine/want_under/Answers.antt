@@ -18,8 +18,5 @@ under st st' ns s q f j k z e g = cc
 
 ruleset ways = (under, room_one, room_framed, rules)
 
-pub returns : goal.returns
-returns c = search ways
-
 pub want_step-requires : goal.want_step-requires
 want_step-requires c = search ways
