@@ -7,14 +7,16 @@ use native.Mathlib.Omega.{arith}
 use borrow.Author.Tests.{le-leb}
 use lib.ListN.{length}
 use Rattle.lexer.specs.Cursor.{longest, start_cursor, walk, part, move_to, valid, Valid}
-use Rattle.lexer.specs.Token.{Text, Lexeme, lexeme, refused, behind_layout, token_since, lexeme_since, read_lexeme, answered, not_valid, next_token}
+use Rattle.lexer.specs.Token.{Text, Lexeme, lexeme, refused, behind_layout, token_since, lexeme_since, read_lexeme, answered, not_valid, next_token, token_read, Answer}
 use Rattle.lexer.specs.declared.refusal.Fault.{Fault}
 use Rattle.lexer.specs.declared.cursor.Cursor.{Cursor}
 use Rattle.lexer.specs.declared.token.Token.{Token}
-use Rattle.lexer.specs.declared.token.Answer.{Answer}
 use Rattle.lexer.specs.declared.token.Source.{Source}
+use Rattle.lexer.proofs.Parts.{read_parts, refuse_parts}
 use Rattle.lexer.proofs.Cursors.{is-valid, move_offset, move_valid, over-bytes}
 use Rattle.lexer.proofs.Promises.{lexeme_ends}
+use Rattle.lexer.specs.Refusal.{refuse}
+use Rattle.std.specs.declared.result.Result.TheVariants.{Ok, Err}
 
 -- the token t was read at the cursor c of the text s, and the cursor d stands behind it
 pub record Promised (s : List ℕ) (c : Cursor) (t : Token) (d : Cursor) : Type 0 where
@@ -53,15 +55,15 @@ start_passes n h = passes n start_cursor (record { short = h; offset = omega ari
 
 module _ (origin : Source) (s : List ℕ) (c : Cursor) where
   answer : Bool → Lexeme → Answer
-  answer b l = cond b (answered s c l) (Answer.Refused not_valid c)
+  answer b l = cond b (answered s c l) (refuse not_valid c)
 
-  of-answer : (t : Token) (d : Cursor) (b : Bool) (l : Lexeme) → valid (length s) c ≡ b → read_lexeme origin s c.offset ≡ l → answer b l ≡ Answer.Read t d → LexemeRead origin s c t d
+  of-answer : (t : Token) (d : Cursor) (b : Bool) (l : Lexeme) → valid (length s) c ≡ b → read_lexeme origin s c.offset ≡ l → answer b l ≡ token_read t d → LexemeRead origin s c t d
   unfolding answer answered
   of-answer t d false l f g h = let z : ◌≡◌ {A = ℕ} 0 1 = cc in absurd (omega arith)
   of-answer t d true (refused w) f g h = let z : ◌≡◌ {A = ℕ} 0 1 = cc in absurd (omega arith)
-  of-answer t d true (lexeme u e x) f g h = record { passes = f; end = e; text = x; reads = cc; there = cc }
+  of-answer t d true (lexeme u e x) f g h = let p = read_parts h in record { passes = f; end = e; text = x; reads = cc (p.0); there = cc (p.1) }
 
-  module _ (t : Token) (d : Cursor) (h : next_token origin s c ≡ Answer.Read t d) where
+  module _ (t : Token) (d : Cursor) (h : next_token origin s c ≡ token_read t d) where
     pub lexeme_read : LexemeRead origin s c t d
     unfolding answer
     lexeme_read = of-answer t d (valid (length s) c) (read_lexeme origin s c.offset) refl refl h
@@ -87,12 +89,12 @@ module _ (origin : Source) (s : List ℕ) (c : Cursor) where
           walked = over-bytes s c d e r.there o;
         }
 
-  of_refusal : (w : Fault) (d : Cursor) (b : Bool) (l : Lexeme) → answer b l ≡ Answer.Refused w d → d ≡ c
+  of_refusal : (w : Fault) (d : Cursor) (b : Bool) (l : Lexeme) → answer b l ≡ refuse w d → d ≡ c
   unfolding answer answered
-  of_refusal w d false l h = cc
-  of_refusal w d true (refused v) h = cc
+  of_refusal w d false l h = cc ((refuse_parts h).1)
+  of_refusal w d true (refused v) h = cc ((refuse_parts h).1)
   of_refusal w d true (lexeme u e x) h = let z : ◌≡◌ {A = ℕ} 0 1 = cc in absurd (omega arith)
 
-  pub refused-here : (w : Fault) (d : Cursor) → next_token origin s c ≡ Answer.Refused w d → d ≡ c
+  pub refused-here : (w : Fault) (d : Cursor) → next_token origin s c ≡ refuse w d → d ≡ c
   unfolding answer
   refused-here w d h = of_refusal w d (valid (length s) c) (read_lexeme origin s c.offset) h

@@ -7,23 +7,23 @@ use lib.Dec.{eqb}
 use lib.ListN.{get_or}
 use borrow.Author.Tests.{eqb-true}
 use Rattle.lexer.specs.Chars.{class_of, open_paren, close_paren, comma, open_bracket, close_bracket, open_brace, close_brace}
-use Rattle.lexer.specs.Name.{name_token}
+use Rattle.lexer.specs.Name.{name_token, PlainToken}
 use Rattle.lexer.specs.Token.{mark, solo_to, plain_token, Text, lexeme, is_comma, read_lexeme}
-use Rattle.lexer.specs.declared.kind.Plain.{Plain}
-use Rattle.lexer.specs.declared.token.Mark.{Mark}
+use Rattle.lexer.specs.Token.{Mark}
+use Rattle.std.specs.declared.option.Option.TheVariants.{Some, None}
 use Rattle.lexer.specs.declared.token.Token.{Token}
 use Rattle.lexer.specs.declared.token.Source.{Source}
 use Rattle.lexer.proofs.EachToken.{Each, plain_each, read_each}
 use Rattle.lexer.proofs.Spans.{by_test}
 
 -- a token, if it is one, of the kind's answer v
-abbrev Says : Bool → Plain → Type 0
+abbrev Says : Bool → PlainToken → Type 0
 Says v = Each (λ k u e. is_comma k ≡ v)
 
 -- a mark, if it is one, is not the Comma
 abbrev Says-mark : Mark → Type 0
-Says-mark (Mark.Is k) = is_comma k ≡ false
-Says-mark Mark.Other = Unit {0}
+Says-mark (Some k) = is_comma k ≡ false
+Says-mark None = Unit {0}
 
 mark_says : (layout : Bool) (x : ℕ) → eqb x comma ≡ false → Says-mark (mark layout x)
 unfolding mark is_comma

@@ -11,22 +11,23 @@ use Rattle.lexer.specs.Digits.{beyond}
 use Rattle.lexer.specs.Float.{float_value}
 use Rattle.lexer.specs.Layout.{layout_end}
 use Rattle.lexer.specs.Look.{peek, lookahead}
-use Rattle.lexer.specs.Name.{alphanumerics, graphics, run_token, name_token}
-use Rattle.lexer.specs.Number.{number_token}
+use Rattle.lexer.specs.Name.{alphanumerics, graphics, run_token, name_token, PlainToken, whole_token}
+use Rattle.lexer.specs.Number.{number_token, NumberRead}
 use Rattle.lexer.specs.Quoted.{Quoted, decode}
 use Rattle.lexer.specs.Token.{mark, bar_to, point_to, solo_to, floated, valued, numbered, sourced, plain_token, Text, decoded, Lexeme, lexeme, refused, text_of, plain_lexeme, quoted_to, quoted_lexeme, lexeme_to, after_layout, behind_layout, lexeme_since, read_lexeme}
-use Rattle.lexer.specs.declared.chars.Look.{Look}
+use Rattle.lexer.specs.Look.{Look}
+use Rattle.std.specs.declared.result.Result.TheVariants.{Ok, Err}
 use Rattle.lexer.specs.declared.chars.Peek.{Peek}
-use Rattle.lexer.specs.declared.cursor.Scan.{Scan}
-use Rattle.lexer.specs.declared.float.Floated.{Floated}
+use Rattle.lexer.specs.Cursor.{Scan}
+use Rattle.lexer.specs.Float.{Floated}
+use Rattle.std.specs.declared.option.Option.TheVariants.{Some, None}
 use Rattle.lexer.specs.declared.kind.Kind.{Kind}
 use Rattle.lexer.specs.declared.kind.Kind.TheVariants.{Name, Variable, String, Number, HeadTailSeparator, DoubleBar, End}
-use Rattle.lexer.specs.declared.kind.Plain.{Plain}
 use Rattle.lexer.specs.declared.kind.Value.{Value}
 use Rattle.lexer.specs.declared.kind.Value.TheVariants.{Nothing}
 use Rattle.lexer.specs.declared.number.Numeral.{Numeral}
 use Rattle.lexer.specs.declared.number.NumberToken.{NumberToken}
-use Rattle.lexer.specs.declared.token.Mark.{Mark}
+use Rattle.lexer.specs.Token.{Mark}
 use Rattle.lexer.specs.declared.token.Source.{Source}
 use Rattle.lexer.proofs.Looks.{Seen, look_byte}
 use Rattle.lexer.proofs.Spans.{by_test}
@@ -35,16 +36,16 @@ use Rattle.lexer.proofs.Spans.{by_test}
 
 module _ (P : Kind → Value → ℕ → Type 0) where
   -- P holds of it, if it is one, by its kind, its value and its end
-  abbrev pub Each : Plain → Type 0
-  Each (Plain.Whole k v e) = P k v e
-  Each (Plain.Refused w) = Unit {0}
+  abbrev pub Each : PlainToken → Type 0
+  Each (Ok p) = P p.kind p.value p.end
+  Each (Err w) = Unit {0}
 
   -- P holds by each rule that may read it at `at`, where x stands
   pub record Rules (s : List ℕ) (at x : ℕ) : Type 0 where
-    pub word : (e : ℕ) → alphanumerics s (at + 1) ≡ Scan.Stop e → P Name Nothing e × P Variable Nothing e
-    pub symbol : (e : ℕ) → graphics s (at + 1) ≡ Scan.Stop e → P Name Nothing e
+    pub word : (e : ℕ) → alphanumerics s (at + 1) ≡ Ok e → P Name Nothing e × P Variable Nothing e
+    pub symbol : (e : ℕ) → graphics s (at + 1) ≡ Ok e → P Name Nothing e
     pub solo : P Name Nothing (at + 1)
-    pub marked : (layout : Bool) (k : Kind) → mark layout x ≡ Mark.Is k → P k Nothing (at + 1)
+    pub marked : (layout : Bool) (k : Kind) → mark layout x ≡ Some k → P k Nothing (at + 1)
     pub separator : P HeadTailSeparator Nothing (at + 1)
     pub bars : P DoubleBar Nothing (at + 2)
     pub end : (e : ℕ) → P End Nothing e
@@ -53,10 +54,10 @@ module _ (P : Kind → Value → ℕ → Type 0) where
 
   module _ (s : List ℕ) (at x : ℕ) (r : Rules s at x) where
     -- names and variables
-    run_each : (k : Kind) (q : Scan) → ((e : ℕ) → q ≡ Scan.Stop e → P k Nothing e) → Each (run_token k q)
+    run_each : (k : Kind) (q : Scan) → ((e : ℕ) → q ≡ Ok e → P k Nothing e) → Each (run_token k q)
     unfolding run_token
-    run_each k (Scan.Stop e) h = h e refl
-    run_each k (Scan.Refused w) h = tt
+    run_each k (Ok e) h = h e refl
+    run_each k (Err w) h = tt
 
     variable_each : Each (run_token Variable (alphanumerics s (at + 1)))
     variable_each = run_each Variable (alphanumerics s (at + 1)) (λ e f. (r.word e f).1)
@@ -71,13 +72,13 @@ module _ (P : Kind → Value → ℕ → Type 0) where
     -- marks
     bar_each : (l : Look) → Each (bar_to at l)
     unfolding bar_to
-    bar_each (Look.Refused w) = tt
-    bar_each (Look.Byte y) = by_test Each (eqb y bar) _ _ (λ _. r.bars) (λ _. r.separator)
+    bar_each (Err w) = tt
+    bar_each (Ok y) = by_test Each (eqb y bar) _ _ (λ _. r.bars) (λ _. r.separator)
 
     solo_each : (layout : Bool) (m : Mark) → mark layout x ≡ m → Each (solo_to s at x m)
     unfolding solo_to
-    solo_each layout (Mark.Is k) f = r.marked layout k f
-    solo_each layout Mark.Other f = by_test Each (eqb x bar) _ _ (λ _. bar_each (lookahead s (at + 1))) (λ _. name_each)
+    solo_each layout (Some k) f = r.marked layout k f
+    solo_each layout None f = by_test Each (eqb x bar) _ _ (λ _. bar_each (lookahead s (at + 1))) (λ _. name_each)
 
     end_each : x ≡ point → (p : Peek) → Each (point_to s at p)
     unfolding point_to
@@ -91,19 +92,19 @@ module _ (P : Kind → Value → ℕ → Type 0) where
     -- numbers
     float_each : (e : ℕ) (d : Floated) → Each (floated at e d)
     unfolding floated
-    float_each e (Floated.Value d) = r.float d e
-    float_each e Floated.Beyond = tt
+    float_each e (Some d) = r.float d e
+    float_each e None = tt
 
     value_each : (e : ℕ) (n : Numeral) → Each (valued at e n)
     unfolding valued
     value_each e (Numeral.Integer n) = by_test Each (ltb n beyond) _ _ (r.integer n e) (λ _. tt)
     value_each e (Numeral.Float m sign y d) = float_each e (float_value m sign y d)
 
-    number_each : (n : NumberToken) → Each (numbered at n)
+    number_each : (n : NumberRead) → Each (numbered at n)
     unfolding numbered
-    number_each (NumberToken.Whole n e) = value_each e n
-    number_each (NumberToken.Partial n e) = tt
-    number_each (NumberToken.Refused w) = tt
+    number_each (Ok (NumberToken.Whole n e)) = value_each e n
+    number_each (Ok (NumberToken.Partial n e)) = tt
+    number_each (Err w) = tt
 
     -- each of them
     pub plain_each : (origin : Source) (layout : Bool) → Each (plain_token origin s at layout x)
@@ -129,13 +130,13 @@ module _ (Q : Kind → Value → ℕ → ℕ → Text → Type 0) where
   of_since from (refused w) h = tt
 
   -- of a token that is not quoted, at `at`
-  abbrev pub OfPlain : ℕ → Plain → Type 0
+  abbrev pub OfPlain : ℕ → PlainToken → Type 0
   OfPlain at = Each (λ k v e. Q k v at e (text_of k))
 
-  of_plain : (at : ℕ) (p : Plain) → OfPlain at p → OfRead (plain_lexeme at p)
+  of_plain : (at : ℕ) (p : PlainToken) → OfPlain at p → OfRead (plain_lexeme at p)
   unfolding plain_lexeme
-  of_plain at (Plain.Whole k v e) h = h
-  of_plain at (Plain.Refused w) h = tt
+  of_plain at (Ok p) h = h
+  of_plain at (Err w) h = tt
 
   -- of a quoted token of the kind k, at a quote q, by what is decoded
   abbrev pub OfQuoted : List ℕ → Kind → ℕ → Type 0
@@ -151,8 +152,8 @@ module _ (Q : Kind → Value → ℕ → ℕ → Text → Type 0) where
 
     look_each : (at : ℕ) (layout : Bool) (r : Look) → lookahead s at ≡ r → OfRead (lexeme_to origin s at layout r)
     unfolding lexeme_to quoted_lexeme
-    look_each at layout (Look.Refused w) f = tt
-    look_each at layout (Look.Byte x) f =
+    look_each at layout (Err w) f = tt
+    look_each at layout (Ok x) f =
         let l = look_byte s at x f in
         by_test OfRead (is quote_char x) _ _
         (λ _. by_test OfRead (eqb x single_quote) _ _ (λ t. quoted_each Name single_quote names at x l t (decode single_quote at s (at + 1)) refl)
@@ -161,8 +162,8 @@ module _ (Q : Kind → Value → ℕ → ℕ → Text → Type 0) where
 
     after_each : (from : ℕ) (r : Scan) → OfRead (after_layout origin s from r)
     unfolding after_layout
-    after_each from (Scan.Refused w) = tt
-    after_each from (Scan.Stop at) = look_each at (ltb from at) (lookahead s at) refl
+    after_each from (Err w) = tt
+    after_each from (Ok at) = look_each at (ltb from at) (lookahead s at) refl
 
     pub read_each : (from : ℕ) → OfRead (read_lexeme origin s from)
     read_each from = of_since from (behind_layout origin s from) (after_each from (layout_end s from))

@@ -14,31 +14,31 @@ use Rattle.lexer.specs.Digits.{is_digit, digits_at, beyond}
 use Rattle.lexer.specs.Float.{float_value}
 use Rattle.lexer.specs.Layout.{begins_with, past, single_line_comment, comment_opened, slashed, layout_text_of, layout_end}
 use Rattle.lexer.specs.Look.{peek, needed, lookahead}
-use Rattle.lexer.specs.Name.{run_end, alphanumerics, graphics, run_token, name_token}
-use Rattle.lexer.specs.Number.{radix_closed, radix_to, radix_constant, character_code, zero_to, exponent_ends, sign_to, letter_to, exponent_to, exponent, float, fraction_digits, fraction, integer_to, number_token}
+use Rattle.lexer.specs.Name.{run_end, alphanumerics, graphics, run_token, name_token, PlainToken, whole_token}
+use Rattle.lexer.specs.Number.{radix_closed, radix_to, radix_constant, character_code, zero_to, exponent_ends, sign_to, letter_to, exponent_to, exponent, float, fraction_digits, fraction, integer_to, number_token, ExponentRead, NumberRead}
 use Rattle.lexer.specs.Number as Number
-use Rattle.lexer.specs.Quoted.{escape_of, coded, closed, numeric_escape, escape_to, quote_to, unquotable, item_to, quoted_item, Quoted, with_char, out_of_limit, decode}
-use Rattle.lexer.specs.Refusal.{fault}
+use Rattle.lexer.specs.Quoted.{escape_of, coded, closed, numeric_escape, escape_to, quote_to, unquotable, item_to, quoted_item, Quoted, with_char, out_of_limit, decode, QuotedItem}
+use Rattle.lexer.specs.Refusal.{fault, refuse}
 use Rattle.lexer.specs.Token.{mark, bar_to, point_to, solo_to, floated, valued, numbered, sourced, plain_token, Lexeme, lexeme, refused, plain_lexeme, quoted_to, quoted_lexeme, lexeme_to, after_layout, behind_layout, lexeme_since, read_lexeme, answered, not_valid, next_token}
 use Rattle.lexer.specs.declared.refusal.Fault.{Fault}
 use Rattle.lexer.specs.declared.refusal.Refusal.{Refusal}
 use Rattle.lexer.specs.declared.refusal.Refusal.TheVariants.{EndOfText, UnclosedComment, NoToken, BadQuoted, ForeignByte, SetAside, OutOfLimit, NotValid, NoRoom, TooManyTokens, NoReading, NoText, TooLong, NoPack, TokenTooLong, UnknownVersion}
 use Rattle.lexer.specs.declared.chars.Peek.{Peek}
-use Rattle.lexer.specs.declared.chars.Look.{Look}
+use Rattle.lexer.specs.Look.{Look}
+use Rattle.std.specs.declared.result.Result.TheVariants.{Ok, Err}
 use Rattle.lexer.specs.declared.cursor.Cursor.{Cursor}
-use Rattle.lexer.specs.declared.cursor.Scan.{Scan}
-use Rattle.lexer.specs.declared.cursor.Scan.TheVariants.{Stop, Refused}
+use Rattle.lexer.specs.Cursor.{Scan}
 use Rattle.lexer.specs.declared.digits.Digits.{Digits}
-use Rattle.lexer.specs.declared.float.Floated.{Floated}
+use Rattle.lexer.specs.Float.{Floated}
+use Rattle.std.specs.declared.option.Option.TheVariants.{Some, None}
 use Rattle.lexer.specs.declared.kind.Kind.{Kind}
-use Rattle.lexer.specs.declared.kind.Plain.{Plain}
 use Rattle.lexer.specs.declared.number.Exponent.{Exponent}
 use Rattle.lexer.specs.declared.number.Numeral.{Numeral}
 use Rattle.lexer.specs.declared.number.NumberToken.{NumberToken}
 use Rattle.lexer.specs.declared.quoted.Item.{Item}
-use Rattle.lexer.specs.declared.token.Answer.{Answer}
-use Rattle.lexer.specs.declared.token.Mark.{Mark}
+use Rattle.lexer.specs.Token.{Mark}
 use Rattle.lexer.specs.declared.token.Source.{Source}
+use Rattle.lexer.proofs.Parts.{refuse_parts}
 use Rattle.lexer.proofs.Bases.{digits_end}
 use Rattle.lexer.proofs.Cursors.{both, is-valid}
 use Rattle.lexer.proofs.FirstMark.{Clear, Came, ends, foreign, unended, comment_came}
@@ -62,7 +62,7 @@ pub record Unclosed (s : List ℕ) (o : ℕ) : Type 0 where
 
 -- the token that is read from the cursor on starts at o, where layout ends
 abbrev pub Starts : List ℕ → Cursor → ℕ → Type 0
-Starts s c o = layout_end s c.offset ≡ Stop o
+Starts s c o = layout_end s c.offset ≡ Ok o
 
 -- 01's offset of each refusal, on the text s from the cursor c; T says of an offset that the token starts there
 abbrev pub PlacedAt : (ℕ → Type 0) → List ℕ → Cursor → ℕ → Refusal → Type 0
@@ -111,46 +111,46 @@ module _ (s : List ℕ) (c : Cursor) (T : ℕ → Type 0) where
   Put w = PlacedAt T s c w.offset w.refusal
 
   abbrev OfScan : Scan → Type 0
-  OfScan (Stop e) = Unit {0}
-  OfScan (Refused w) = Put w
+  OfScan (Ok e) = Unit {0}
+  OfScan (Err w) = Put w
 
-  abbrev OfItem : Item → Type 0
-  OfItem (Item.Char b e) = Unit {0}
-  OfItem (Item.Beyond e) = Unit {0}
-  OfItem (Item.Skip e) = Unit {0}
-  OfItem (Item.Close e) = Unit {0}
-  OfItem (Item.Refused w) = Put w
+  abbrev OfItem : QuotedItem → Type 0
+  OfItem (Ok (Item.Char b e)) = Unit {0}
+  OfItem (Ok (Item.Beyond e)) = Unit {0}
+  OfItem (Ok (Item.Skip e)) = Unit {0}
+  OfItem (Ok (Item.Close e)) = Unit {0}
+  OfItem (Err w) = Put w
 
   abbrev OfQuoted : Quoted → Type 0
   OfQuoted (Quoted.whole bs e) = Unit {0}
   OfQuoted (Quoted.refused w) = Put w
 
-  abbrev OfExponent : Exponent → Type 0
-  OfExponent Exponent.Absent = Unit {0}
-  OfExponent Exponent.Ended = Unit {0}
-  OfExponent (Exponent.Whole sign x e) = Unit {0}
-  OfExponent (Exponent.Partial sign x e) = Unit {0}
-  OfExponent (Exponent.Refused w) = Put w
+  abbrev OfExponent : ExponentRead → Type 0
+  OfExponent (Ok Exponent.Absent) = Unit {0}
+  OfExponent (Ok Exponent.Ended) = Unit {0}
+  OfExponent (Ok (Exponent.Whole sign x e)) = Unit {0}
+  OfExponent (Ok (Exponent.Partial sign x e)) = Unit {0}
+  OfExponent (Err w) = Put w
 
-  abbrev OfNumber : NumberToken → Type 0
-  OfNumber (NumberToken.Whole n e) = Unit {0}
-  OfNumber (NumberToken.Partial n e) = Unit {0}
-  OfNumber (NumberToken.Refused w) = Put w
+  abbrev OfNumber : NumberRead → Type 0
+  OfNumber (Ok (NumberToken.Whole n e)) = Unit {0}
+  OfNumber (Ok (NumberToken.Partial n e)) = Unit {0}
+  OfNumber (Err w) = Put w
 
-  abbrev OfPlain : Plain → Type 0
-  OfPlain (Plain.Whole k v e) = Unit {0}
-  OfPlain (Plain.Refused w) = Put w
+  abbrev OfPlain : PlainToken → Type 0
+  OfPlain (Ok p) = Unit {0}
+  OfPlain (Err w) = Put w
 
   abbrev OfLexeme : Lexeme → Type 0
   OfLexeme (lexeme t e x) = Unit {0}
   OfLexeme (refused w) = Put w
 
   -- ---- a look, and a byte
-  look_placed : (o : ℕ) → o ≤ length s → (w : Fault) → lookahead s o ≡ Look.Refused w → Put w
+  look_placed : (o : ℕ) → o ≤ length s → (w : Fault) → lookahead s o ≡ Err w → Put w
   unfolding needed
   look_placed o h w e = go (peek s o) refl e
     where
-      go : (p : Peek) → peek s o ≡ p → needed o p ≡ Look.Refused w → Put w
+      go : (p : Peek) → peek s o ≡ p → needed o p ≡ Err w → Put w
       go Peek.End q f =
           let k = peek_end s o q in
           let l : o ≡ length s = omega arith in
@@ -166,7 +166,7 @@ module _ (s : List ℕ) (c : Cursor) (T : ℕ → Type 0) where
   line-placed : (at : ℕ) → OfScan (single_line_comment s at)
   unfolding past
   line-placed at =
-      by-bytes s (λ (n : ℕ) (xs : List ℕ). OfScan (past (newline ∷ []) Stop n xs)) (λ n l. tt)
+      by-bytes s (λ (n : ℕ) (xs : List ℕ). OfScan (past (newline ∷ []) Ok n xs)) (λ n l. tt)
       (λ n l p. by_test OfScan (is foreign_byte (get_or s n 0)) _ _ (strange n l)
       (λ _. by_test OfScan (begins_with (newline ∷ []) (get_or s n 0 ∷ drop (n + 1) s)) _ _ (λ _. tt) (λ _. p)))
       (length s - at) at (omega arith)
@@ -179,20 +179,20 @@ module _ (s : List ℕ) (c : Cursor) (T : ℕ → Type 0) where
 
     comment_placed : get_or s (o + 1) 0 ≡ star → o + 1 < length s → (r : Look) → lookahead s (o + 2) ≡ r → OfScan (comment_opened s o r)
     unfolding comment_opened
-    comment_placed second h (Look.Refused w) e = look_placed (o + 2) (omega arith) w e
-    comment_placed second h (Look.Byte x) e = came_placed second (look_byte s (o + 2) x e).inside (comment_came s o)
+    comment_placed second h (Err w) e = look_placed (o + 2) (omega arith) w e
+    comment_placed second h (Ok x) e = came_placed second (look_byte s (o + 2) x e).inside (comment_came s o)
 
     slash-placed : o < length s → (r : Look) → lookahead s (o + 1) ≡ r → OfScan (slashed s o r)
     unfolding slashed
-    slash-placed h (Look.Refused w) e = look_placed (o + 1) (omega arith) w e
-    slash-placed h (Look.Byte x) e =
+    slash-placed h (Err w) e = look_placed (o + 1) (omega arith) w e
+    slash-placed h (Ok x) e =
         let l = look_byte s (o + 1) x e in
         by_test OfScan (eqb x star) _ _ (λ t. comment_placed (l.it ∙ eqb-true x star t) l.inside (lookahead s (o + 2)) refl) (λ _. tt)
 
   text-placed : (at : ℕ) → at ≤ length s → (r : Look) → lookahead s at ≡ r → OfScan (layout_text_of s at r)
   unfolding layout_text_of
-  text-placed at h (Look.Refused w) e = look_placed at h w e
-  text-placed at h (Look.Byte x) e =
+  text-placed at h (Err w) e = look_placed at h w e
+  text-placed at h (Ok x) e =
       let l = look_byte s at x e in
       by_test OfScan (is layout_char x) _ _ (λ _. tt)
       (λ _. by_test OfScan (eqb x percent) _ _ (λ _. line-placed (at + 1))
@@ -213,8 +213,8 @@ module _ (s : List ℕ) (c : Cursor) (T : ℕ → Type 0) where
 
     closed-placed : (from : ℕ) (d : Digits) → d.end ≤ length s → (r : Look) → lookahead s d.end ≡ r → OfItem (closed at from d r)
     unfolding closed
-    closed-placed from d k (Look.Refused w) e = look_placed d.end k w e
-    closed-placed from d k (Look.Byte x) e =
+    closed-placed from d k (Err w) e = look_placed d.end k w e
+    closed-placed from d k (Ok x) e =
         by_test OfItem (eqb x backslash) _ _ (λ _. by_test OfItem (eqb d.end from) _ _ (λ _. h) (λ _. code-placed d.value (d.end + 1))) (λ _. h)
 
     numeric_placed : (base from : ℕ) → from ≤ length s → OfItem (numeric_escape base at s from)
@@ -222,8 +222,8 @@ module _ (s : List ℕ) (c : Cursor) (T : ℕ → Type 0) where
 
     escape-placed : (k : ℕ) → k ≤ length s → (r : Look) → lookahead s k ≡ r → OfItem (escape_to at s k r)
     unfolding escape_to
-    escape-placed k l (Look.Refused w) e = look_placed k l w e
-    escape-placed k l (Look.Byte x) e =
+    escape-placed k l (Err w) e = look_placed k l w e
+    escape-placed k l (Ok x) e =
         let m = (look_byte s k x e).inside in
         by_test OfItem (eqb x newline) _ _ (λ _. tt)
         (λ _. by_test OfItem (is_digit 8 x) _ _ (λ _. numeric_placed 8 k l)
@@ -232,13 +232,13 @@ module _ (s : List ℕ) (c : Cursor) (T : ℕ → Type 0) where
 
     quote_placed : (q k : ℕ) → k ≤ length s → (r : Look) → lookahead s k ≡ r → OfItem (quote_to q k r)
     unfolding quote_to
-    quote_placed q k l (Look.Refused w) e = look_placed k l w e
-    quote_placed q k l (Look.Byte x) e = by_test OfItem (eqb x q) _ _ (λ _. tt) (λ _. tt)
+    quote_placed q k l (Err w) e = look_placed k l w e
+    quote_placed q k l (Ok x) e = by_test OfItem (eqb x q) _ _ (λ _. tt) (λ _. tt)
 
     item_placed : (q k : ℕ) → k ≤ length s → (r : Look) → lookahead s k ≡ r → OfItem (item_to q at s k r)
     unfolding item_to
-    item_placed q k l (Look.Refused w) e = look_placed k l w e
-    item_placed q k l (Look.Byte x) e =
+    item_placed q k l (Err w) e = look_placed k l w e
+    item_placed q k l (Ok x) e =
         let m = (look_byte s k x e).inside in
         by_test OfItem (among x unquotable) _ _ (λ _. h)
         (λ _. by_test OfItem (eqb x q) _ _ (λ _. quote_placed q (k + 1) (omega arith) (lookahead s (k + 1)) refl)
@@ -290,13 +290,13 @@ module _ (s : List ℕ) (c : Cursor) (T : ℕ → Type 0) where
     exponent-placed k Peek.Foreign e = peek_foreign s k e
     exponent-placed k (Peek.Byte x) e = by_test OfExponent (eqb x small_e || eqb x capital_e) _ _ (λ _. exponent_letter (k + 1) (peek s (k + 1)) refl) (λ _. tt)
 
-    float-placed : (m f e : ℕ) (x : Exponent) → OfExponent x → OfNumber (float m f e x)
+    float-placed : (m f e : ℕ) (x : ExponentRead) → OfExponent x → OfNumber (float m f e x)
     unfolding float
-    float-placed m f e Exponent.Absent p = tt
-    float-placed m f e Exponent.Ended p = tt
-    float-placed m f e (Exponent.Whole sign x end) p = tt
-    float-placed m f e (Exponent.Partial sign x end) p = tt
-    float-placed m f e (Exponent.Refused w) p = p
+    float-placed m f e (Ok Exponent.Absent) p = tt
+    float-placed m f e (Ok Exponent.Ended) p = tt
+    float-placed m f e (Ok (Exponent.Whole sign x end)) p = tt
+    float-placed m f e (Ok (Exponent.Partial sign x end)) p = tt
+    float-placed m f e (Err w) p = p
 
     fraction-placed : (d : Digits) → OfNumber (fraction s d)
     fraction-placed d =
@@ -319,20 +319,20 @@ module _ (s : List ℕ) (c : Cursor) (T : ℕ → Type 0) where
     module _ (inside : at + 1 < length s) where
       radix-to : (base : ℕ) (r : Look) → lookahead s (at + 2) ≡ r → OfNumber (radix_to base s at r)
       unfolding radix_to
-      radix-to base (Look.Refused w) e = look_placed (at + 2) (omega arith) w e
-      radix-to base (Look.Byte x) e =
+      radix-to base (Err w) e = look_placed (at + 2) (omega arith) w e
+      radix-to base (Ok x) e =
           by_test OfNumber (is_digit base x) _ _ (λ _. radix-closed _ (digits_at base 0 s (at + 2)).end (peek s (digits_at base 0 s (at + 2)).end) refl) (λ _. tt)
 
       radix_placed : (base : ℕ) → OfNumber (radix_constant base s at)
       radix_placed base = radix-to base (lookahead s (at + 2)) refl
 
-      character_placed : (i : Item) → OfItem i → OfNumber (character_code at i)
+      character_placed : (i : QuotedItem) → OfItem i → OfNumber (character_code at i)
       unfolding character_code
-      character_placed (Item.Char b e) p = tt
-      character_placed (Item.Beyond e) p = tt
-      character_placed (Item.Skip e) p = h
-      character_placed (Item.Close e) p = tt
-      character_placed (Item.Refused w) p = p
+      character_placed (Ok (Item.Char b e)) p = tt
+      character_placed (Ok (Item.Beyond e)) p = tt
+      character_placed (Ok (Item.Skip e)) p = h
+      character_placed (Ok (Item.Close e)) p = tt
+      character_placed (Err w) p = p
 
       zero-placed : (x : ℕ) → OfNumber (zero_to s at x)
       unfolding zero_to
@@ -358,8 +358,8 @@ module _ (s : List ℕ) (c : Cursor) (T : ℕ → Type 0) where
 
     floated-placed : (e : ℕ) (v : Floated) → OfPlain (floated at e v)
     unfolding floated
-    floated-placed e (Floated.Value v) = tt
-    floated-placed e Floated.Beyond = h
+    floated-placed e (Some v) = tt
+    floated-placed e None = h
 
     valued-placed : (e : ℕ) (n : Numeral) → OfPlain (valued at e n)
     unfolding valued
@@ -367,11 +367,11 @@ module _ (s : List ℕ) (c : Cursor) (T : ℕ → Type 0) where
     valued-placed e (Numeral.Float m sign x f) = floated-placed e (float_value m sign x f)
 
     -- a number that reaches the end of the text ends there
-    numbered-placed : (n : NumberToken) → EndsOf s at n → OfNumber n → OfPlain (numbered at n)
+    numbered-placed : (n : NumberRead) → EndsOf s at n → OfNumber n → OfPlain (numbered at n)
     unfolding numbered
-    numbered-placed (NumberToken.Whole n e) q p = valued-placed e n
-    numbered-placed (NumberToken.Partial n e) q p = q.last
-    numbered-placed (NumberToken.Refused w) q p = p
+    numbered-placed (Ok (NumberToken.Whole n e)) q p = valued-placed e n
+    numbered-placed (Ok (NumberToken.Partial n e)) q p = q.last
+    numbered-placed (Err w) q p = p
 
     -- names and variables
     run-placed : (lo hi k : ℕ) → k ≤ length s → OfScan (run_end lo hi k (drop k s))
@@ -384,8 +384,8 @@ module _ (s : List ℕ) (c : Cursor) (T : ℕ → Type 0) where
 
     run-token : (k : Kind) (r : Scan) → OfScan r → OfPlain (run_token k r)
     unfolding run_token
-    run-token k (Stop e) p = tt
-    run-token k (Refused w) p = p
+    run-token k (Ok e) p = tt
+    run-token k (Err w) p = p
 
     module _ (x : ℕ) (l : Seen s at x) where
       next : at + 1 ≤ length s
@@ -405,13 +405,13 @@ module _ (s : List ℕ) (c : Cursor) (T : ℕ → Type 0) where
       -- the other tokens
       bar-placed : (r : Look) → lookahead s (at + 1) ≡ r → OfPlain (bar_to at r)
       unfolding bar_to
-      bar-placed (Look.Refused w) e = look_placed (at + 1) next w e
-      bar-placed (Look.Byte y) e = by_test OfPlain (eqb y bar) _ _ (λ _. tt) (λ _. tt)
+      bar-placed (Err w) e = look_placed (at + 1) next w e
+      bar-placed (Ok y) e = by_test OfPlain (eqb y bar) _ _ (λ _. tt) (λ _. tt)
 
       solo_placed : (m : Mark) → OfPlain (solo_to s at x m)
       unfolding solo_to
-      solo_placed (Mark.Is k) = tt
-      solo_placed Mark.Other = by_test OfPlain (eqb x bar) _ _ (λ _. bar-placed (lookahead s (at + 1)) refl) (λ _. name_placed)
+      solo_placed (Some k) = tt
+      solo_placed None = by_test OfPlain (eqb x bar) _ _ (λ _. bar-placed (lookahead s (at + 1)) refl) (λ _. name_placed)
 
       end_placed : x ≡ point → (r : Peek) → peek s (at + 1) ≡ r → OfPlain (point_to s at r)
       unfolding point_to
@@ -436,10 +436,10 @@ module _ (s : List ℕ) (c : Cursor) (T : ℕ → Type 0) where
           (λ _. by_test OfPlain (is underscore_char x) _ _ (λ _. alphanumeric_placed Kind.Variable)
           (λ _. by_test OfPlain (eqb x point) _ _ (λ t. end_placed (eqb-true x point t) (peek s (at + 1)) refl) (λ _. name_placed)))))
 
-    of_plain : (p : Plain) → OfPlain p → OfLexeme (plain_lexeme at p)
+    of_plain : (p : PlainToken) → OfPlain p → OfLexeme (plain_lexeme at p)
     unfolding plain_lexeme
-    of_plain (Plain.Whole k v e) p = tt
-    of_plain (Plain.Refused w) p = p
+    of_plain (Ok q) p = tt
+    of_plain (Err w) p = p
 
     of_quoted : (k : Kind) (d : Quoted) → OfQuoted d → OfLexeme (quoted_to k at d)
     unfolding quoted_to
@@ -448,8 +448,8 @@ module _ (s : List ℕ) (c : Cursor) (T : ℕ → Type 0) where
 
     lexeme_placed : (origin : Source) (layout : Bool) (r : Look) → at < length s → lookahead s at ≡ r → OfLexeme (lexeme_to origin s at layout r)
     unfolding lexeme_to quoted_lexeme
-    lexeme_placed origin layout (Look.Refused w) m e = look_placed at (omega arith) w e
-    lexeme_placed origin layout (Look.Byte x) m e =
+    lexeme_placed origin layout (Err w) m e = look_placed at (omega arith) w e
+    lexeme_placed origin layout (Ok x) m e =
         let quoted : (k : Kind) (q : ℕ) → OfLexeme (quoted_to k at (decode q at s (at + 1))) = λ k q. of_quoted k (decode q at s (at + 1)) (decode-placed q (at + 1) (omega arith)) in
         by_test OfLexeme (is quote_char x) _ _
         (λ _. by_test OfLexeme (eqb x single_quote) _ _ (λ _. quoted Kind.Name single_quote)
@@ -463,8 +463,8 @@ module _ (s : List ℕ) (c : Cursor) where
 
   after-placed : (origin : Source) → c.offset ≤ length s → (r : Scan) → layout_end s c.offset ≡ r → OfLexeme s c (Starts s c) (after_layout origin s c.offset r)
   unfolding after_layout
-  after-placed origin h (Refused w) f = subst (OfScan s c (Starts s c)) f (layout-placed s c (Starts s c) c.offset h)
-  after-placed origin h (Stop at) f = lexeme_placed s c (Starts s c) at f origin (ltb c.offset at) (lookahead s at) (inside_of (Stop at) f).1 refl
+  after-placed origin h (Err w) f = subst (OfScan s c (Starts s c)) f (layout-placed s c (Starts s c) c.offset h)
+  after-placed origin h (Ok at) f = lexeme_placed s c (Starts s c) at f origin (ltb c.offset at) (lookahead s at) (inside_of (Ok at) f).1 refl
 
   -- wherever the layout before it began
   since_placed : (l : Lexeme) → OfLexeme s c (Starts s c) l → OfLexeme s c (Starts s c) (lexeme_since c.offset l)
@@ -473,21 +473,21 @@ module _ (s : List ℕ) (c : Cursor) where
   since_placed (refused w) p = p
 
   answer-placed : (origin : Source) (w : Fault) (back : Cursor) (b : Bool) (l : Lexeme) → valid (length s) c ≡ b → read_lexeme origin s c.offset ≡ l
-      → cond b (answered s c l) (Answer.Refused not_valid c) ≡ Answer.Refused w back → Placed s c w
+      → cond b (answered s c l) (refuse not_valid c) ≡ refuse w back → Placed s c w
   unfolding answered
   answer-placed origin w back true (lexeme t e x) v f g = let z : ◌≡◌ {A = ℕ} 0 1 = cc in absurd (omega arith)
   answer-placed origin w back true (refused u) v f g =
-      let q : u ≡ w = cc in
+      let q = (refuse_parts g).0 in
       subst (Placed s c) q (subst (OfLexeme s c (Starts s c)) f (since_placed (behind_layout origin s c.offset) (after-placed origin (is-valid (length s) c v).offset (layout_end s c.offset) refl)))
-  answer-placed origin w back false l v f g = let q : not_valid ≡ w = cc in subst (Placed s c) q (refl, v)
+  answer-placed origin w back false l v f g = let q = (refuse_parts g).0 in subst (Placed s c) q (refl, v)
 
   -- a refusal of the token call is where 01's table puts it
-  pub refusal_placed : (origin : Source) (w : Fault) (back : Cursor) → next_token origin s c ≡ Answer.Refused w back → Placed s c w
+  pub refusal_placed : (origin : Source) (w : Fault) (back : Cursor) → next_token origin s c ≡ refuse w back → Placed s c w
   refusal_placed origin w back = answer-placed origin w back (valid (length s) c) (read_lexeme origin s c.offset) refl refl
 
   -- so it is no further than the end of the text
   starts_inside : (o : ℕ) → Starts s c o → o ≤ length s
-  starts_inside o f = let b = inside_of (Stop o) f in omega (arith, b.1)
+  starts_inside o f = let b = inside_of (Ok o) f in omega (arith, b.1)
 
   placed-at_inside : (T : ℕ → Type 0) → ((o : ℕ) → T o → o ≤ length s) → (o : ℕ) (r : Refusal) → PlacedAt T s c o r → o ≤ length s
   placed-at_inside T q o EndOfText p = omega arith

@@ -12,8 +12,8 @@ use Rattle.lexer.specs.Chars.{class_of, is, foreign_byte, star, slash}
 use Rattle.lexer.specs.Layout.{begins_with, past, unclosed, comment_text}
 use Rattle.lexer.specs.Refusal.{fault}
 use Rattle.lexer.specs.declared.refusal.Refusal.TheVariants.{UnclosedComment, ForeignByte}
-use Rattle.lexer.specs.declared.cursor.Scan.{Scan}
-use Rattle.lexer.specs.declared.cursor.Scan.TheVariants.{Stop, Refused}
+use Rattle.lexer.specs.Cursor.{Scan}
+use Rattle.std.specs.declared.result.Result.TheVariants.{Ok, Err}
 use Rattle.lexer.proofs.Cursors.{both}
 use Rattle.lexer.proofs.Steps.{drop_at, drop_end}
 
@@ -95,7 +95,7 @@ module _ (s : List ℕ) (o : ℕ) where
   close at = past mark (unclosed o) at (drop at s)
 
   turned : ℕ → Bool → Bool → Scan
-  turned at foreign closes = cond foreign (Refused (fault ForeignByte at)) (cond closes (Stop (at + 2)) (close (at + 1)))
+  turned at foreign closes = cond foreign (Err (fault ForeignByte at)) (cond closes (Ok (at + 2)) (close (at + 1)))
 
   turn : (at : ℕ) → at < length s → close at ≡ turned at (is foreign_byte (get_or s at 0)) (here s at)
   unfolding past turned
@@ -106,11 +106,11 @@ module _ (s : List ℕ) (o : ℕ) where
   unfolding past
   at-end at h = cc (drop_end s at h)
 
-  at_foreign : (at : ℕ) → at < length s → is foreign_byte (get_or s at 0) ≡ true → close at ≡ Refused (fault ForeignByte at)
+  at_foreign : (at : ℕ) → at < length s → is foreign_byte (get_or s at 0) ≡ true → close at ≡ Err (fault ForeignByte at)
   unfolding turned
   at_foreign at h k = turn at h ∙ cc
 
-  at_mark : (at : ℕ) → Closes s at → close at ≡ Stop (at + 2)
+  at_mark : (at : ℕ) → Closes s at → close at ≡ Ok (at + 2)
   unfolding turned
   at_mark at c = turn at (omega (arith, c.inside)) ∙ cc (star-known (get_or s at 0) c.star_there, closed s at c)
 
@@ -133,17 +133,17 @@ module _ (s : List ℕ) (o : ℕ) where
   from_there : (i : ℕ) → o + 2 ≤ i → i ≤ length s → Clear s (o + 2) i → comment_text s o ≡ close i
   from_there i h k c = over_clear (i - (o + 2)) (o + 2) i (omega arith) k c
 
-  pub clear_end : o + 2 ≤ length s → Clear s (o + 2) (length s) → comment_text s o ≡ Refused (fault UnclosedComment o)
+  pub clear_end : o + 2 ≤ length s → Clear s (o + 2) (length s) → comment_text s o ≡ Err (fault UnclosedComment o)
   clear_end h c = from_there (length s) h (omega arith) c ∙ at-end (length s) (omega arith)
 
-  pub clear_foreign : (i : ℕ) → o + 2 ≤ i → i < length s → Clear s (o + 2) i → is foreign_byte (get_or s i 0) ≡ true → comment_text s o ≡ Refused (fault ForeignByte i)
+  pub clear_foreign : (i : ℕ) → o + 2 ≤ i → i < length s → Clear s (o + 2) i → is foreign_byte (get_or s i 0) ≡ true → comment_text s o ≡ Err (fault ForeignByte i)
   clear_foreign i h k c f = from_there i h (omega arith) c ∙ at_foreign i k f
 
-  pub mark_first : (i : ℕ) → First s (o + 2) i → comment_text s o ≡ Stop (i + 2)
+  pub mark_first : (i : ℕ) → First s (o + 2) i → comment_text s o ≡ Ok (i + 2)
   mark_first i f = from_there i f.from (omega (arith, f.closes.inside)) f.clear ∙ at_mark i f.closes
 
   -- by what stands at the front, where the rest is known
-  found : (at e : ℕ) → (close (at + 1) ≡ Stop e → First s (at + 1) (e - 2)) → (foreign closes : Bool) → is foreign_byte (get_or s at 0) ≡ foreign → here s at ≡ closes → turned at foreign closes ≡ Stop e → First s at (e - 2)
+  found : (at e : ℕ) → (close (at + 1) ≡ Ok e → First s (at + 1) (e - 2)) → (foreign closes : Bool) → is foreign_byte (get_or s at 0) ≡ foreign → here s at ≡ closes → turned at foreign closes ≡ Ok e → First s at (e - 2)
   unfolding turned
   found at e r true b k m f = let z : ◌≡◌ {A = ℕ} 0 1 = cc in absurd (omega arith)
   found at e r false true k m f =
@@ -155,22 +155,22 @@ module _ (s : List ℕ) (o : ℕ) where
       let n : Closes s at → ⊥ = λ c. let g = closed s at c in let z : ◌≡◌ {A = ℕ} 0 1 = cc in omega arith in
       record { from = omega (arith, p.from); closes = p.closes; clear = clear_more s at (e - 2) n k p.clear }
 
-  first_from : (n at e : ℕ) → length s ≤ at + n → close at ≡ Stop e → First s at (e - 2)
+  first_from : (n at e : ℕ) → length s ≤ at + n → close at ≡ Ok e → First s at (e - 2)
   first_from zero at e h f = let g = at-end at (omega arith) in let z : ◌≡◌ {A = ℕ} 0 1 = cc in absurd (omega arith)
   first_from (suc n) at e h f = go (dec_lt at (length s)) (λ g. first_from n (at + 1) e (omega arith) g)
     where
-      go : Dec (at < length s) → (close (at + 1) ≡ Stop e → First s (at + 1) (e - 2)) → First s at (e - 2)
+      go : Dec (at < length s) → (close (at + 1) ≡ Ok e → First s (at + 1) (e - 2)) → First s at (e - 2)
       go (no k) r = let g = at-end at (omega arith) in let z : ◌≡◌ {A = ℕ} 0 1 = cc in absurd (omega arith)
       go (yes k) r = found at e r (is foreign_byte (get_or s at 0)) (here s at) refl refl (sym (turn at k) ∙ f)
 
-  pub first_mark : (e : ℕ) → comment_text s o ≡ Stop e → First s (o + 2) (e - 2)
+  pub first_mark : (e : ℕ) → comment_text s o ≡ Ok e → First s (o + 2) (e - 2)
   first_mark e f = first_from (length s) (o + 2) e (omega arith) f
 
 -- what the text of the comment whose slash is at o comes to, from `at` on: its end, a foreign byte, or neither up to the end of the text
 pub data Came (s : List ℕ) (o at : ℕ) : Scan → Type 0 where
-  ends : (e : ℕ) → Came s o at (Stop e)
-  foreign : (i : ℕ) → i < length s → is foreign_byte (get_or s i 0) ≡ true → Came s o at (Refused (fault ForeignByte i))
-  unended : Clear s at (length s) → Came s o at (Refused (fault UnclosedComment o))
+  ends : (e : ℕ) → Came s o at (Ok e)
+  foreign : (i : ℕ) → i < length s → is foreign_byte (get_or s i 0) ≡ true → Came s o at (Err (fault ForeignByte i))
+  unended : Clear s at (length s) → Came s o at (Err (fault UnclosedComment o))
 
 module _ (s : List ℕ) (o : ℕ) where
   came_on : (at : ℕ) → (Closes s at → ⊥) → is foreign_byte (get_or s at 0) ≡ false → {r : Scan} → Came s o (at + 1) r → Came s o at r

@@ -15,12 +15,12 @@ use Rattle.lexer.specs.Layout.{single_line_comment, unclosed, comment_text, comm
 use Rattle.lexer.specs.Look.{front, needed, lookahead}
 use Rattle.lexer.specs.Stretch.{in_stretch, stretch_end}
 use Rattle.lexer.specs.declared.refusal.Fault.{Fault}
-use Rattle.lexer.specs.declared.chars.Look.{Look}
+use Rattle.lexer.specs.Look.{Look}
+use Rattle.std.specs.declared.result.Result.TheVariants.{Ok, Err}
 use Rattle.lexer.specs.declared.cursor.Cursor.{Cursor}
-use Rattle.lexer.specs.declared.cursor.Moved.{Moved}
-use Rattle.lexer.specs.declared.cursor.Scan.{Scan}
-use Rattle.lexer.specs.declared.cursor.Scan.TheVariants.{Stop, Refused}
-use Rattle.lexer.specs.declared.layout.Layout.{Layout}
+use Rattle.lexer.specs.Cursor.{Scan}
+use Rattle.lexer.specs.Layout.{Layout}
+use Rattle.std.specs.declared.option.Option.TheVariants.{Some, None}
 use Rattle.lexer.proofs.Cursors.{NoNewline, can_move_along, move_along, move_here, move_offset, move_valid}
 use Rattle.lexer.proofs.Items.{Carries, items_stop, items_on, items_hold}
 use Rattle.lexer.proofs.Looks.{look_byte}
@@ -31,12 +31,12 @@ use Rattle.lexer.proofs.Stretches.{along_stretch, stretch_ahead, stretch_inside,
 -- ---- where one layout text ends
 module _ (s : List ℕ) where
   pub line_ends : (at : ℕ) → at ≤ length s → Between at (length s) (single_line_comment s at)
-  line_ends at h = rw (add-zero at) at (past_ends (newline ∷ []) Stop 0 (omega arith) (λ (n : ℕ). omega arith) s at h)
+  line_ends at h = rw (add-zero at) at (past_ends (newline ∷ []) Ok 0 (omega arith) (λ (n : ℕ). omega arith) s at h)
 
   comment_ends : (o : ℕ) (r : Look) → lookahead s (o + 2) ≡ r → Between (o + 2) (length s) (comment_opened s o r)
   unfolding comment_opened
-  comment_ends o (Look.Refused w) e = tt
-  comment_ends o (Look.Byte x) e =
+  comment_ends o (Err w) e = tt
+  comment_ends o (Ok x) e =
       let l = look_byte s (o + 2) x e in
       wider (o + 2 + 2) (length s) _ _ (comment_text s o) (omega arith) (omega arith)
       (past_ends (star ∷ slash ∷ []) (unclosed o) 2 (omega arith) (λ (n : ℕ). tt) s (o + 2) (omega (arith, l.inside)))
@@ -46,16 +46,16 @@ module _ (s : List ℕ) where
 
   slash_ends : (at : ℕ) (r : Look) → at ≤ length s → Between at (length s) (slashed s at r)
   unfolding slashed
-  slash_ends at (Look.Refused w) h = tt
-  slash_ends at (Look.Byte x) h =
+  slash_ends at (Err w) h = tt
+  slash_ends at (Ok x) h =
       choice _ _ (eqb x star) _ _
       (λ _. wider (at + 2) (length s) _ _ (bracketed_comment s at) (omega arith) (omega arith) (bracketed_ends at))
       (λ _. omega arith)
 
   text_ends : (at : ℕ) (r : Look) → lookahead s at ≡ r → Between at (length s) (layout_text_of s at r)
   unfolding layout_text_of
-  text_ends at (Look.Refused w) e = tt
-  text_ends at (Look.Byte x) e =
+  text_ends at (Err w) e = tt
+  text_ends at (Ok x) e =
       let l = (look_byte s at x e).inside in
       choice _ _ (is layout_char x) _ _ (λ _. omega arith)
       (λ _. choice _ _ (eqb x percent) _ _
@@ -71,15 +71,15 @@ module _ (s : List ℕ) where
   nothing_left at h = cc (drop_end s at h)
 
   module _ (at : ℕ) where
-    pub refused_there : (w : Fault) → layout_text s at ≡ Refused w → layout_end s at ≡ Refused w
+    pub refused_there : (w : Fault) → layout_text s at ≡ Err w → layout_end s at ≡ Err w
     unfolding layout_turn
-    refused_there w e = items_stop (layout_texts s) ended s at (Refused w) (nothing_left at) (cc)
+    refused_there w e = items_stop (layout_texts s) ended s at (Err w) (nothing_left at) (cc)
 
-    pub stops_there : layout_text s at ≡ Stop at → layout_end s at ≡ Stop at
+    pub stops_there : layout_text s at ≡ Ok at → layout_end s at ≡ Ok at
     unfolding layout_turn
-    stops_there e = items_stop (layout_texts s) ended s at (Stop at) (nothing_left at) (cc (eq-eqb at at refl))
+    stops_there e = items_stop (layout_texts s) ended s at (Ok at) (nothing_left at) (cc (eq-eqb at at refl))
 
-    pub goes_on : (e : ℕ) → layout_text s at ≡ Stop e → (e ≡ at → ⊥) → layout_end s at ≡ layout_end s e
+    pub goes_on : (e : ℕ) → layout_text s at ≡ Ok e → (e ≡ at → ⊥) → layout_end s at ≡ layout_end s e
     unfolding layout_turn
     goes_on e q n =
         let b : (at ≤ e) × (e ≤ length s) = rw q at (layout-text_ends at) in
@@ -90,29 +90,29 @@ module _ (s : List ℕ) where
 
 -- layout ends before a character: from lo on, before hi
 abbrev pub Before : ℕ → ℕ → Scan → Type 0
-Before lo hi (Stop e) = (lo ≤ e) × (e < hi)
-Before lo hi (Refused w) = Unit {0}
+Before lo hi (Ok e) = (lo ≤ e) × (e < hi)
+Before lo hi (Err w) = Unit {0}
 
 further : (hi lo lo' : ℕ) (r : Scan) → lo' ≤ lo → Before lo hi r → Before lo' hi r
-further hi lo lo' (Stop e) p h = omega arith
-further hi lo lo' (Refused w) p h = tt
+further hi lo lo' (Ok e) p h = omega arith
+further hi lo lo' (Err w) p h = tt
 
 -- an empty layout text stands before a character
 module _ (s : List ℕ) where
-  before_char : (at : ℕ) (r : Look) → lookahead s at ≡ r → (e : ℕ) → layout_text_of s at r ≡ Stop e → at < length s
+  before_char : (at : ℕ) (r : Look) → lookahead s at ≡ r → (e : ℕ) → layout_text_of s at r ≡ Ok e → at < length s
   unfolding layout_text_of
-  before_char at (Look.Refused w) f e g = let z : ◌≡◌ {A = ℕ} 0 1 = cc in absurd (omega arith)
-  before_char at (Look.Byte x) f e g = (look_byte s at x f).inside
+  before_char at (Err w) f e g = let z : ◌≡◌ {A = ℕ} 0 1 = cc in absurd (omega arith)
+  before_char at (Ok x) f e g = (look_byte s at x f).inside
 
   -- what holds of the sequence, by its texts
-  module _ (P : ℕ → Scan → Type 0) (stops : (at e : ℕ) → layout_text s at ≡ Stop e → P at (Stop at)) (refuses : (at : ℕ) (w : Fault) → layout_text s at ≡ Refused w → P at (Refused w))
+  module _ (P : ℕ → Scan → Type 0) (stops : (at e : ℕ) → layout_text s at ≡ Ok e → P at (Ok at)) (refuses : (at : ℕ) (w : Fault) → layout_text s at ≡ Err w → P at (Err w))
       (more : (at e : ℕ) (r : Scan) → at < e → e ≤ length s → P e r → P at r) where
     carries : (at : ℕ) (r : Scan) → layout_text s at ≡ r → Carries P (length s) at (layout_turn at r)
     unfolding layout_turn
-    carries at (Refused w) f = refuses at w f
-    carries at (Stop e) f = go (eqb e at) refl
+    carries at (Err w) f = refuses at w f
+    carries at (Ok e) f = go (eqb e at) refl
       where
-        go : (t : Bool) → eqb e at ≡ t → Carries P (length s) at (cond t (stop (Stop at)) (on e same))
+        go : (t : Bool) → eqb e at ≡ t → Carries P (length s) at (cond t (stop (Ok at)) (on e same))
         go true g = stops at e f
         go false g =
             let b : (at ≤ e) × (e ≤ length s) = rw f at (layout-text_ends s at) in
@@ -128,14 +128,14 @@ module _ (s : List ℕ) where
       (λ at e r l k h. further (length s) e at r (omega arith) h) at
 
 pub before_between : (lo hi : ℕ) (r : Scan) → Before lo hi r → Between lo hi r
-before_between lo hi (Stop e) h = omega arith
-before_between lo hi (Refused w) h = tt
+before_between lo hi (Ok e) h = omega arith
+before_between lo hi (Err w) h = tt
 
 -- what ends behind the cursor, as a comment does, is layout up to there
 pub stepped-ahead : (s : List ℕ) (c : Cursor) (hi : ℕ) (r : Scan) → Between (c.offset + 1) hi r → stepped s c r ≡ layout_to (moved s c r)
 unfolding stepped moved
-stepped-ahead s c hi (Stop e) b = cc (ne_eqb e c.offset (λ h. omega (arith, b.0)))
-stepped-ahead s c hi (Refused w) b = refl
+stepped-ahead s c hi (Ok e) b = cc (ne_eqb e c.offset (λ h. omega (arith, b.0)))
+stepped-ahead s c hi (Err w) b = refl
 
 -- ---- the sequence from a cursor
 -- from d, further on, it ends where it ends from c
@@ -167,24 +167,24 @@ module _ (s : List ℕ) (c : Cursor) where
   -- ---- by what one layout text came to
   pub record Ends (d : Cursor) : Type 0 where
     pub end : ℕ
-    pub text : layout_text s c.offset ≡ Stop end
+    pub text : layout_text s c.offset ≡ Ok end
     pub there : d ≡ move_to s c end
     pub ahead : c.offset < end
     pub inside : end ≤ length s
 
   -- what each outcome tells of the text
   abbrev pub Came : Layout → Type 0
-  Came (Layout.To d) = Ends d
-  Came Layout.Absent = layout_text s c.offset ≡ Stop c.offset
-  Came (Layout.Refused w) = layout_text s c.offset ≡ Refused w
+  Came (Ok (Some d)) = Ends d
+  Came (Ok None) = layout_text s c.offset ≡ Ok c.offset
+  Came (Err w) = layout_text s c.offset ≡ Err w
 
   came : (r : Scan) → layout_text s c.offset ≡ r → Came (stepped s c r)
   unfolding stepped
-  came (Refused w) q = q
-  came (Stop e) q = go (eqb e c.offset) refl
+  came (Err w) q = q
+  came (Ok e) q = go (eqb e c.offset) refl
     where
-      go : (t : Bool) → eqb e c.offset ≡ t → Came (cond t Layout.Absent (Layout.To (move_to s c e)))
-      go true g = q ∙ ap Stop (eqb-true e c.offset g)
+      go : (t : Bool) → eqb e c.offset ≡ t → Came (cond t (Ok None) (Ok (Some (move_to s c e))))
+      go true g = q ∙ ap Ok (eqb-true e c.offset g)
       go false g =
           let b : (c.offset ≤ e) × (e ≤ length s) = rw q at (layout-text_ends s c.offset) in
           record { end = e; text = q; there = refl; ahead = (let n = eqb-false e c.offset g in omega (arith, n, b.0)); inside = b.1 }
@@ -192,24 +192,24 @@ module _ (s : List ℕ) (c : Cursor) where
   pub told : (r : Layout) → stepped s c (layout_text s c.offset) ≡ r → Came r
   told r e = rw e at (came (layout_text s c.offset) refl)
 
-  pub layout-refused : (w : Fault) → stepped s c (layout_text s c.offset) ≡ Layout.Refused w → moved s c (layout_end s c.offset) ≡ Moved.Refused w
+  pub layout-refused : (w : Fault) → stepped s c (layout_text s c.offset) ≡ Err w → moved s c (layout_end s c.offset) ≡ Err w
   unfolding moved
-  layout-refused w e = ap (moved s c) (refused_there s c.offset w (told (Layout.Refused w) e))
+  layout-refused w e = ap (moved s c) (refused_there s c.offset w (told (Err w) e))
 
-  pub layout-none : stepped s c (layout_text s c.offset) ≡ Layout.Absent → moved s c (layout_end s c.offset) ≡ Moved.To c
+  pub layout-none : stepped s c (layout_text s c.offset) ≡ (Ok None) → moved s c (layout_end s c.offset) ≡ Ok c
   unfolding moved
-  layout-none e = ap (moved s c) (stops_there s c.offset (told Layout.Absent e)) ∙ ap Moved.To (move_here s c)
+  layout-none e = ap (moved s c) (stops_there s c.offset (told (Ok None) e)) ∙ ap Ok (move_here s c)
 
-  module _ (d : Cursor) (e : stepped s c (layout_text s c.offset) ≡ Layout.To d) where
+  module _ (d : Cursor) (e : stepped s c (layout_text s c.offset) ≡ Ok (Some d)) where
     pub layout_more : Valid (length s) c → Later s c d
     layout_more v =
-        let t = told (Layout.To d) e in
+        let t = told (Ok (Some d)) e in
         let h : c.offset ≤ t.end = omega (arith, t.ahead) in
         later v t.end h t.inside (goes_on s c.offset t.end t.text (λ n. omega (arith, t.ahead))) d t.there
 
     pub layout-ahead : c.offset < d.offset
     layout-ahead =
-        let t = told (Layout.To d) e in
+        let t = told (Ok (Some d)) e in
         let o = ap (λ (x : Cursor). x.offset) t.there ∙ move_offset s c t.end (omega (arith, t.ahead)) t.inside in
         omega (arith, t.ahead)
 

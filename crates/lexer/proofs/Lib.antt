@@ -5,6 +5,7 @@ pub mod Cursors
 pub mod EachToken
 pub mod Faults
 pub mod FirstMark
+pub mod HandedOn
 pub mod Integers
 pub mod Items
 pub mod LayoutCalls
@@ -13,6 +14,7 @@ pub mod Looks
 pub mod Marks
 pub mod Numbers
 pub mod OwnBytes
+pub mod Parts
 pub mod Promises
 pub mod QuotedItems
 pub mod Refusals

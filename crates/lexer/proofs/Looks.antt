@@ -13,7 +13,8 @@ use Rattle.lexer.specs.Chars.{is, foreign_byte}
 use Rattle.lexer.specs.Look.{front, peek, needed, lookahead}
 use Rattle.lexer.specs.declared.chars.Peek.{Peek}
 use Rattle.lexer.specs.declared.chars.Peek.TheVariants.{Byte, Foreign, End}
-use Rattle.lexer.specs.declared.chars.Look.{Look}
+use Rattle.lexer.specs.Look.{Look}
+use Rattle.std.specs.declared.result.Result.TheVariants.{Ok}
 use Rattle.lexer.proofs.Steps.{drop_at, drop_end}
 
 -- at a byte b of some class
@@ -76,17 +77,17 @@ module _ (s : List ℕ) (at : ℕ) where
       go false f h = let z : ◌≡◌ {A = ℕ} 0 1 = cc (there false f h) in absurd (omega arith)
 
   -- a look that finds a byte
-  pub look_byte : (b : ℕ) → lookahead s at ≡ Look.Byte b → Seen s at b
+  pub look_byte : (b : ℕ) → lookahead s at ≡ Ok b → Seen s at b
   unfolding needed
   look_byte b e = go (peek s at) refl e
     where
-      go : (p : Peek) → peek s at ≡ p → needed at p ≡ Look.Byte b → Seen s at b
+      go : (p : Peek) → peek s at ≡ p → needed at p ≡ Ok b → Seen s at b
       go (Byte x) q f = let g : x ≡ b = cc in peek_byte b (cc)
       go Foreign q f = let z : ◌≡◌ {A = ℕ} 0 1 = cc in absurd (omega arith)
       go End q f = let z : ◌≡◌ {A = ℕ} 0 1 = cc in absurd (omega arith)
 
   -- and a byte of some class is found
-  pub byte_look : (b : ℕ) → at < length s → get_or s at 0 ≡ b → is foreign_byte b ≡ false → lookahead s at ≡ Look.Byte b
+  pub byte_look : (b : ℕ) → at < length s → get_or s at 0 ≡ b → is foreign_byte b ≡ false → lookahead s at ≡ Ok b
   unfolding needed
   byte_look b h e f = cc (there false (cc) h)
 
@@ -99,7 +100,7 @@ module _ (s : List ℕ) (at b : ℕ) where
     pub peek-fits : length s < 2 ^ 64 → Fits w64 (at + 1)
     peek-fits h = let l = peek-inside in record { fits = omega arith }
 
-  module _ (r : Look) (e : r ≡ lookahead s at) (f : r ≡ Look.Byte b) where
+  module _ (r : Look) (e : r ≡ lookahead s at) (f : r ≡ Ok b) where
     pub look_inside : at < length s
     look_inside = (look_byte s at b (sym e ∙ f)).inside
 

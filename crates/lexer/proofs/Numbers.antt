@@ -10,18 +10,18 @@ use lib.ListN.{length, drop}
 use Rattle.lexer.specs.Chars.{newline, underscore, point, plus, minus, single_quote, small_x, small_o, small_b, small_e, capital_e}
 use Rattle.lexer.specs.Digits.{is_digit, digits_at, beyond, held}
 use Rattle.lexer.specs.Look.{peek, lookahead}
-use Rattle.lexer.specs.Number.{radix_closed, radix_to, radix_constant, character_code, zero_to, exponent_ends, exponent_digits, sign_to, letter_to, exponent_to, exponent, float, fraction_digits, fraction, point_to, integer_to, number_token, held_exponent, held_numeral, held_number}
-use Rattle.lexer.specs.Quoted.{quoted_item}
+use Rattle.lexer.specs.Number.{radix_closed, radix_to, radix_constant, character_code, zero_to, exponent_ends, exponent_digits, sign_to, letter_to, exponent_to, exponent, float, fraction_digits, fraction, point_to, integer_to, number_token, held_exponent, held_numeral, held_number, ExponentRead, NumberRead}
+use Rattle.lexer.specs.Quoted.{quoted_item, QuotedItem}
 use Rattle.lexer.specs.declared.chars.Peek.{Peek}
 use Rattle.lexer.specs.declared.chars.Peek.TheVariants.{Byte, Foreign, End}
-use Rattle.lexer.specs.declared.chars.Look.{Look}
+use Rattle.lexer.specs.Look.{Look}
+use Rattle.std.specs.declared.result.Result.TheVariants.{Ok, Err}
 use Rattle.lexer.specs.declared.digits.Digits.{Digits}
 use Rattle.lexer.specs.declared.quoted.Item.{Item}
 use Rattle.lexer.specs.declared.number.Exponent.{Exponent}
 use Rattle.lexer.specs.declared.number.Numeral.{Numeral}
 use Rattle.lexer.specs.declared.number.Numeral.TheVariants.{Integer, Float}
-use Rattle.lexer.specs.declared.number.NumberToken.{NumberToken}
-use Rattle.lexer.specs.declared.number.NumberToken.TheVariants.{Whole, Partial, Refused}
+use Rattle.lexer.specs.declared.number.NumberToken.TheVariants.{Whole, Partial}
 use Rattle.lexer.proofs.Bases.{held-from, digits_end, digits-some, digits_plain}
 use Rattle.lexer.proofs.Cursors.{both}
 use Rattle.lexer.proofs.Looks.{Seen, peek_end, peek_byte}
@@ -36,20 +36,20 @@ held_none : (n : ℕ) → eqb (min n beyond) 0 ≡ eqb n 0
 held_none zero = refl
 held_none (suc n) = ne_eqb (min (suc n) beyond) 0 (λ h. omega arith) ∙ sym (ne_eqb (suc n) 0 (λ h. omega arith))
 
-pub held-float : (m f e : ℕ) (x : Exponent) → held_number (float m f e x) ≡ float (min m beyond) f e (held_exponent x)
+pub held-float : (m f e : ℕ) (x : ExponentRead) → held_number (float m f e x) ≡ float (min m beyond) f e (held_exponent x)
 unfolding float held_number held_numeral held_exponent
-held-float m f e Exponent.Absent = refl
-held-float m f e Exponent.Ended = refl
-held-float m f e (Exponent.Whole sign x end) = refl
-held-float m f e (Exponent.Partial sign x end) = refl
-held-float m f e (Exponent.Refused w) = refl
+held-float m f e (Ok Exponent.Absent) = refl
+held-float m f e (Ok Exponent.Ended) = refl
+held-float m f e (Ok (Exponent.Whole sign x end)) = refl
+held-float m f e (Ok (Exponent.Partial sign x end)) = refl
+held-float m f e (Err w) = refl
 
-held_choice : (t : Bool) (a b c d : NumberToken) → held_number a ≡ held_number b → held_number c ≡ held_number d → held_number (cond t a c) ≡ held_number (cond t b d)
+held_choice : (t : Bool) (a b c d : NumberRead) → held_number a ≡ held_number b → held_number c ≡ held_number d → held_number (cond t a c) ≡ held_number (cond t b d)
 held_choice true a b c d p q = p
 held_choice false a b c d p q = q
 
 -- the float whose digits a are, where its fraction starts at k
-abbrev float_of : List ℕ → ℕ → Digits → NumberToken
+abbrev float_of : List ℕ → ℕ → Digits → NumberRead
 float_of s k a = float a.value (a.end - k) a.end (exponent s a.end)
 
 held-digits : (s : List ℕ) (k : ℕ) (a b : Digits) → held a ≡ held b → held_number (float_of s k a) ≡ held_number (float_of s k b)
@@ -59,7 +59,7 @@ held-digits s k a b r =
     cc (held-float a.value (a.end - k) a.end (exponent s a.end), held-float b.value (b.end - k) b.end (exponent s b.end))
 
 module _ (s : List ℕ) (d : Digits) where
-  held_whole : held_number (Whole (Integer (min d.value beyond)) d.end) ≡ held_number (Whole (Integer d.value) d.end)
+  held_whole : held_number (Ok (Whole (Integer (min d.value beyond)) d.end)) ≡ held_number (Ok (Whole (Integer d.value) d.end))
   unfolding held_number held_numeral
   held_whole = cc (held-twice d.value)
 
@@ -99,22 +99,22 @@ pub record Last (s : List ℕ) (at : ℕ) (n : Numeral) (e : ℕ) : Type 0 where
   pub ends : Ends s at n e
   pub last : e ≡ length s
 
-abbrev pub EndsOf : List ℕ → ℕ → NumberToken → Type 0
-EndsOf s at (Whole n e) = Ends s at n e
-EndsOf s at (Partial n e) = Last s at n e
-EndsOf s at (Refused w) = Unit {0}
+abbrev pub EndsOf : List ℕ → ℕ → NumberRead → Type 0
+EndsOf s at (Ok (Whole n e)) = Ends s at n e
+EndsOf s at (Ok (Partial n e)) = Last s at n e
+EndsOf s at (Err w) = Unit {0}
 
 -- an exponent that ends the text
 record LastExponent (s : List ℕ) (at e : ℕ) : Type 0 where
   plain : Plain s at e
   last : length s ≤ e
 
-abbrev ExponentOf : List ℕ → ℕ → Exponent → Type 0
-ExponentOf s at Exponent.Absent = Unit {0}
-ExponentOf s at Exponent.Ended = length s ≤ at
-ExponentOf s at (Exponent.Whole sign x e) = Plain s at e
-ExponentOf s at (Exponent.Partial sign x e) = LastExponent s at e
-ExponentOf s at (Exponent.Refused w) = Unit {0}
+abbrev ExponentOf : List ℕ → ℕ → ExponentRead → Type 0
+ExponentOf s at (Ok Exponent.Absent) = Unit {0}
+ExponentOf s at (Ok Exponent.Ended) = length s ≤ at
+ExponentOf s at (Ok (Exponent.Whole sign x e)) = Plain s at e
+ExponentOf s at (Ok (Exponent.Partial sign x e)) = LastExponent s at e
+ExponentOf s at (Err w) = Unit {0}
 
 -- the exponent of the fraction that ends at `at`, of which the part up to k was read
 module _ (s : List ℕ) (at : ℕ) where
@@ -165,14 +165,14 @@ module _ (s : List ℕ) (at : ℕ) where
   integer : (n e : ℕ) → Plain s at e → Ends s at (Integer n) e
   integer n e p = record { plain = p; few = omega arith }
 
-  float_ends : (m f e : ℕ) → Plain s at e → f ≤ length s → (x : Exponent) → ExponentOf s e x → EndsOf s at (float m f e x)
+  float_ends : (m f e : ℕ) → Plain s at e → f ≤ length s → (x : ExponentRead) → ExponentOf s e x → EndsOf s at (float m f e x)
   unfolding float
-  float_ends m f e p h Exponent.Absent q = record { plain = p; few = h }
-  float_ends m f e p h Exponent.Ended q = record { ends = record { plain = p; few = h }; last = omega (arith, p.span.inside) }
-  float_ends m f e p h (Exponent.Whole sign x end) q = record { plain = plain_on s at e p end q; few = h }
-  float_ends m f e p h (Exponent.Partial sign x end) q =
+  float_ends m f e p h (Ok Exponent.Absent) q = record { plain = p; few = h }
+  float_ends m f e p h (Ok Exponent.Ended) q = record { ends = record { plain = p; few = h }; last = omega (arith, p.span.inside) }
+  float_ends m f e p h (Ok (Exponent.Whole sign x end)) q = record { plain = plain_on s at e p end q; few = h }
+  float_ends m f e p h (Ok (Exponent.Partial sign x end)) q =
       record { ends = record { plain = plain_on s at e p end q.plain; few = h }; last = omega (arith, q.plain.span.inside, q.last) }
-  float_ends m f e p h (Exponent.Refused w) q = tt
+  float_ends m f e p h (Err w) q = tt
 
   fraction_ends : (d : Digits) → Plain s at (d.end + 1) → EndsOf s at (fraction s d)
   fraction_ends d h =
@@ -197,18 +197,18 @@ module _ (s : List ℕ) (at : ℕ) where
     module _ (letter : Plain s at (at + 2)) where
       radix_ends : (base : ℕ) → base ≤ 16 → (r : Look) → EndsOf s at (radix_to base s at r)
       unfolding radix_to
-      radix_ends base few (Look.Refused w) = tt
-      radix_ends base few (Look.Byte x) =
+      radix_ends base few (Err w) = tt
+      radix_ends base few (Ok x) =
           by_test (EndsOf s at) (is_digit base x) _ _ (λ t. closed_ends _ _ (plain_digits s at (at + 2) letter base 0 few) (peek s (digits_at base 0 s (at + 2)).end))
           (λ t. integer _ _ nought)
 
-      character_ends : (i : Item) → quoted_item single_quote at s (at + 2) ≡ i → EndsOf s at (character_code at i)
+      character_ends : (i : QuotedItem) → quoted_item single_quote at s (at + 2) ≡ i → EndsOf s at (character_code at i)
       unfolding character_code
-      character_ends (Item.Char b e) f = integer b e (plain_on s at (at + 2) letter e (char_ends single_quote s (at + 2) at e b f))
-      character_ends (Item.Beyond e) f = integer beyond e (plain_on s at (at + 2) letter e (beyond_ends single_quote s (at + 2) at e f))
-      character_ends (Item.Skip e) f = tt
-      character_ends (Item.Close e) f = integer _ _ nought
-      character_ends (Item.Refused w) f = tt
+      character_ends (Ok (Item.Char b e)) f = integer b e (plain_on s at (at + 2) letter e (char_ends single_quote s (at + 2) at e b f))
+      character_ends (Ok (Item.Beyond e)) f = integer beyond e (plain_on s at (at + 2) letter e (beyond_ends single_quote s (at + 2) at e f))
+      character_ends (Ok (Item.Skip e)) f = tt
+      character_ends (Ok (Item.Close e)) f = integer _ _ nought
+      character_ends (Err w) f = tt
 
     zero_ends : (x : ℕ) → Seen s (at + 1) x → EndsOf s at (zero_to s at x)
     unfolding zero_to
@@ -242,11 +242,11 @@ module _ (s : List ℕ) (at : ℕ) where
   held_few (Integer n) h = h
   held_few (Float m sign x f) h = h
 
-  held_ends : (t : NumberToken) → EndsOf s at t → EndsOf s at (held_number t)
+  held_ends : (t : NumberRead) → EndsOf s at t → EndsOf s at (held_number t)
   unfolding held_number
-  held_ends (Whole n e) p = record { plain = p.plain; few = held_few n p.few }
-  held_ends (Partial n e) p = record { ends = record { plain = p.ends.plain; few = held_few n p.ends.few }; last = p.last }
-  held_ends (Refused w) p = tt
+  held_ends (Ok (Whole n e)) p = record { plain = p.plain; few = held_few n p.few }
+  held_ends (Ok (Partial n e)) p = record { ends = record { plain = p.ends.plain; few = held_few n p.ends.few }; last = p.last }
+  held_ends (Err w) p = tt
 
   -- a number that a digit begins
   module _ (b : ℕ) (l : Seen s at b) (h : is_digit 10 b ≡ true) where
@@ -261,15 +261,15 @@ module _ (s : List ℕ) (at : ℕ) where
 
     -- of the definition, and of what the code answers
     module _ (n : Numeral) (e : ℕ) where
-      pub whole_ends : number_token s at ≡ Whole n e → Ends s at n e
+      pub whole_ends : number_token s at ≡ Ok (Whole n e) → Ends s at n e
       whole_ends f = rw f at number_ends
 
-      pub partial_ends : number_token s at ≡ Partial n e → Last s at n e
+      pub partial_ends : number_token s at ≡ Ok (Partial n e) → Last s at n e
       partial_ends f = rw f at number_ends
 
-      module _ (r : NumberToken) (g : r ≡ held_number (number_token s at)) where
-        pub held_whole_ends : r ≡ Whole n e → Ends s at n e
+      module _ (r : NumberRead) (g : r ≡ held_number (number_token s at)) where
+        pub held_whole_ends : r ≡ Ok (Whole n e) → Ends s at n e
         held_whole_ends f = rw (sym g ∙ f) at held-number_ends
 
-        pub held_partial_ends : r ≡ Partial n e → Last s at n e
+        pub held_partial_ends : r ≡ Ok (Partial n e) → Last s at n e
         held_partial_ends f = rw (sym g ∙ f) at held-number_ends

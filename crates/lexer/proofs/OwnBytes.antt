@@ -10,11 +10,10 @@ use lib.Dec.{eqb, leb}
 use lib.ListN.{take, drop}
 use Rattle.lexer.specs.Chars.{class_of, is, within, small_letter, decimal_digit, graphic_token_char, layout_char, foreign_byte, carriage_return}
 use Rattle.lexer.specs.Cursor.{part}
-use Rattle.lexer.specs.Name.{run_end, name_token}
+use Rattle.lexer.specs.Name.{run_end, name_token, PlainToken, whole_token}
 use Rattle.lexer.specs.Token.{plain_token, Text, source, lexeme, text_of, read_lexeme}
-use Rattle.lexer.specs.declared.cursor.Scan.{Scan}
+use Rattle.std.specs.declared.result.Result.TheVariants.{Ok, Err}
 use Rattle.lexer.specs.declared.kind.Kind.{Kind}
-use Rattle.lexer.specs.declared.kind.Plain.{Plain}
 use Rattle.lexer.specs.declared.kind.Value.{Value}
 use Rattle.lexer.specs.declared.token.Token.{Token}
 use Rattle.lexer.specs.declared.token.Source.{Source}
@@ -46,13 +45,13 @@ more_kept at x xs e b h = go (dec_le e at)
     go (no l) = let n : e - at ≡ suc (e - (at + 1)) = omega arith in rw n (cc)
 
 -- a run of classes below that of layout
-run-kept : (lo hi : ℕ) → hi < layout_char → (at : ℕ) (xs : List ℕ) (e : ℕ) → run_end lo hi at xs ≡ Scan.Stop e → Kept at xs e
+run-kept : (lo hi : ℕ) → hi < layout_char → (at : ℕ) (xs : List ℕ) (e : ℕ) → run_end lo hi at xs ≡ Ok e → Kept at xs e
 unfolding run_end
 run-kept lo hi few at [] e f = cc
 run-kept lo hi few at (x ∷ xs) e f =
-    by_test (λ r. r ≡ Scan.Stop e → Kept at (x ∷ xs) e) (within lo hi (class_of x)) _ _
+    by_test (λ r. r ≡ Ok e → Kept at (x ∷ xs) e) (within lo hi (class_of x)) _ _
     (λ t g. more_kept at x xs e (byte_kept x (λ k. let h = leb-true (class_of x) hi (both (leb lo (class_of x)) _ t).1 in omega arith)) (run-kept lo hi few (at + 1) xs e g))
-    (λ _. by_test (λ r. r ≡ Scan.Stop e → Kept at (x ∷ xs) e) (is foreign_byte x) _ _ (λ _ g. cc) (λ _ g. let q : e ≡ at = cc in none_kept at (x ∷ xs) e (omega arith))) f
+    (λ _. by_test (λ r. r ≡ Ok e → Kept at (x ∷ xs) e) (is foreign_byte x) _ _ (λ _ g. cc) (λ _ g. let q : e ≡ at = cc in none_kept at (x ∷ xs) e (omega arith))) f
 
 module _ (s : List ℕ) where
   -- a token that is not quoted and begins with x, at `at`: its bytes stay, if they are its text
@@ -77,16 +76,16 @@ module _ (s : List ℕ) where
       one : Kept at (x ∷ drop (at + 1) s) (at + 1)
       one = more_kept at x (drop (at + 1) s) (at + 1) b (none_kept (at + 1) (drop (at + 1) s) (at + 1) (omega arith))
 
-      run : (lo hi : ℕ) → hi < layout_char → (e : ℕ) → run_end lo hi (at + 1) (drop (at + 1) s) ≡ Scan.Stop e → source ≡ source → Kept at (x ∷ drop (at + 1) s) e
+      run : (lo hi : ℕ) → hi < layout_char → (e : ℕ) → run_end lo hi (at + 1) (drop (at + 1) s) ≡ Ok e → source ≡ source → Kept at (x ∷ drop (at + 1) s) e
       run lo hi few e f _ = more_kept at x (drop (at + 1) s) e b (run-kept lo hi few (at + 1) (drop (at + 1) s) e f)
 
   -- any token: its bytes stay, if they are its text
   abbrev Keeps : ℕ → ℕ → Text → Type 0
   Keeps at e x = x ≡ source → part at e (blanked s) ≡ part at e s
 
-  keeps : (at x : ℕ) → Seen s at x → (p : Plain) → Each (Own at x) p → Each (λ k v e. Keeps at e (text_of k)) p
-  keeps at x l (Plain.Whole k v e) h = λ g. rw (drop-same at s, l.rest) (h g)
-  keeps at x l (Plain.Refused w) h = tt
+  keeps : (at x : ℕ) → Seen s at x → (p : PlainToken) → Each (Own at x) p → Each (λ k v e. Keeps at e (text_of k)) p
+  keeps at x l (Ok p) h = λ g. rw (drop-same at s, l.rest) (h g)
+  keeps at x l (Err w) h = tt
 
   -- no token begins with a carriage return
   of_byte : (origin : Source) (layout : Bool) (at x : ℕ) (t : Bool) → eqb x carriage_return ≡ t → Each (Own at x) (plain_token origin s at layout x)

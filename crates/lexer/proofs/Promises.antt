@@ -13,21 +13,21 @@ use Rattle.lexer.specs.Digits.{digit_of, is_digit, beyond}
 use Rattle.lexer.specs.Float.{float_value}
 use Rattle.lexer.specs.Layout.{layout_end}
 use Rattle.lexer.specs.Look.{peek, lookahead}
-use Rattle.lexer.specs.Name.{run_end, alphanumerics, graphics, run_token, name_token}
-use Rattle.lexer.specs.Number.{number_token}
+use Rattle.lexer.specs.Name.{run_end, alphanumerics, graphics, run_token, name_token, PlainToken, whole_token}
+use Rattle.lexer.specs.Number.{number_token, NumberRead}
 use Rattle.lexer.specs.Quoted.{Quoted, decode}
 use Rattle.lexer.specs.Token.{mark, bar_to, point_to, solo_to, floated, valued, numbered, sourced, plain_token, Text, Lexeme, lexeme, refused, plain_lexeme, quoted_to, quoted_lexeme, lexeme_to, after_layout, behind_layout, lexeme_since, read_lexeme}
 use Rattle.lexer.specs.declared.chars.Peek.{Peek}
-use Rattle.lexer.specs.declared.chars.Look.{Look}
-use Rattle.lexer.specs.declared.cursor.Scan.{Scan}
-use Rattle.lexer.specs.declared.cursor.Scan.TheVariants.{Stop, Refused}
-use Rattle.lexer.specs.declared.float.Floated.{Floated}
+use Rattle.lexer.specs.Look.{Look}
+use Rattle.std.specs.declared.result.Result.TheVariants.{Ok, Err}
+use Rattle.lexer.specs.Cursor.{Scan}
+use Rattle.lexer.specs.Float.{Floated}
+use Rattle.std.specs.declared.option.Option.TheVariants.{Some, None}
 use Rattle.lexer.specs.declared.kind.Kind.{Kind}
 use Rattle.lexer.specs.declared.kind.Value.{Value}
-use Rattle.lexer.specs.declared.kind.Plain.{Plain}
 use Rattle.lexer.specs.declared.number.Numeral.{Numeral}
 use Rattle.lexer.specs.declared.number.NumberToken.{NumberToken}
-use Rattle.lexer.specs.declared.token.Mark.{Mark}
+use Rattle.lexer.specs.Token.{Mark}
 use Rattle.lexer.specs.declared.token.Token.{Token}
 use Rattle.lexer.specs.declared.token.Source.{Source}
 use Rattle.lexer.proofs.Cursors.{NoNewline, both, plain_one, plain_both}
@@ -85,19 +85,19 @@ pub record Ending (s : List ℕ) (at e : ℕ) : Type 0 where
 pub one_line : (s : List ℕ) (at e : ℕ) → OneLine s at e → Ending s at e
 one_line s at e p = record { ahead = p.span.ahead; inside = p.span.inside; plain = λ i h k. p.plain i h (omega arith) }
 
-abbrev pub PlainEnds : List ℕ → ℕ → Plain → Type 0
-PlainEnds s at (Plain.Whole k v e) = Ending s at e
-PlainEnds s at (Plain.Refused w) = Unit {0}
+abbrev pub PlainEnds : List ℕ → ℕ → PlainToken → Type 0
+PlainEnds s at (Ok p) = Ending s at p.end
+PlainEnds s at (Err w) = Unit {0}
 
 -- a run, perhaps empty, of bytes that are no layout
 abbrev pub Run : List ℕ → ℕ → Scan → Type 0
-Run s at (Stop e) = (at ≤ e) × ((e ≤ length s) × NoNewline s at e)
-Run s at (Refused w) = Unit {0}
+Run s at (Ok e) = (at ≤ e) × ((e ≤ length s) × NoNewline s at e)
+Run s at (Err w) = Unit {0}
 
 module _ (s : List ℕ) where
   longer : (at : ℕ) (r : Scan) → (get_or s at 0 ≡ newline → ⊥) → Run s (at + 1) r → Run s at r
-  longer at (Refused w) n p = tt
-  longer at (Stop e) n p =
+  longer at (Err w) n p = tt
+  longer at (Ok e) n p =
       (omega (arith, p.0), (p.1.0, plain_both s at (at + 1) e (plain_one s at n) p.1.1))
 
   module _ (lo hi : ℕ) (few : hi ≤ graphic_token_char) where
@@ -116,8 +116,8 @@ module _ (s : List ℕ) where
   -- a character, and a run behind it
   run-token : (k : Kind) (at x : ℕ) (r : Scan) → Seen s at x → (x ≡ newline → ⊥) → Run s (at + 1) r → PlainEnds s at (run_token k r)
   unfolding run_token
-  run-token k at x (Refused w) l n p = tt
-  run-token k at x (Stop e) l n p =
+  run-token k at x (Err w) l n p = tt
+  run-token k at x (Ok e) l n p =
       one_line s at e
       (record {
         span = record { ahead = omega (arith, p.0); inside = p.1.0 };
@@ -147,8 +147,8 @@ module _ (s : List ℕ) where
     module _ (n : x ≡ newline → ⊥) where
       bar_ends : (r : Look) → lookahead s (at + 1) ≡ r → PlainEnds s at (bar_to at r)
       unfolding bar_to
-      bar_ends (Look.Refused w) e = tt
-      bar_ends (Look.Byte y) e =
+      bar_ends (Err w) e = tt
+      bar_ends (Ok y) e =
           let k = look_byte s (at + 1) y e in
           let m : at + 1 + 1 ≡ at + 2 = omega arith in
           by_test (PlainEnds s at) (eqb y bar) _ _
@@ -157,8 +157,8 @@ module _ (s : List ℕ) where
 
       solo_ends : (m : Mark) → PlainEnds s at (solo_to s at x m)
       unfolding solo_to
-      solo_ends (Mark.Is k) = single n
-      solo_ends Mark.Other = by_test (PlainEnds s at) (eqb x bar) _ _ (λ _. bar_ends (lookahead s (at + 1)) refl) (λ _. name_ends)
+      solo_ends (Some k) = single n
+      solo_ends None = by_test (PlainEnds s at) (eqb x bar) _ _ (λ _. bar_ends (lookahead s (at + 1)) refl) (λ _. name_ends)
 
     end_ends : x ≡ point → (r : Peek) → peek s (at + 1) ≡ r → PlainEnds s at (point_to s at r)
     unfolding point_to
@@ -175,19 +175,19 @@ module _ (s : List ℕ) where
 
     floated_ends : (e : ℕ) (v : Floated) → Ending s at e → PlainEnds s at (floated at e v)
     unfolding floated
-    floated_ends e (Floated.Value v) p = p
-    floated_ends e Floated.Beyond p = tt
+    floated_ends e (Some v) p = p
+    floated_ends e None p = tt
 
     valued_ends : (e : ℕ) (n : Numeral) → Ending s at e → PlainEnds s at (valued at e n)
     unfolding valued
     valued_ends e (Numeral.Integer n) p = by_test (PlainEnds s at) (ltb n beyond) _ _ (λ _. p) (λ _. tt)
     valued_ends e (Numeral.Float m sign y f) p = floated_ends e (float_value m sign y f) p
 
-    numbered_ends : (t : NumberToken) → EndsOf s at t → PlainEnds s at (numbered at t)
+    numbered_ends : (t : NumberRead) → EndsOf s at t → PlainEnds s at (numbered at t)
     unfolding numbered
-    numbered_ends (NumberToken.Whole n e) p = valued_ends e n (one_line s at e p.plain)
-    numbered_ends (NumberToken.Partial n e) p = tt
-    numbered_ends (NumberToken.Refused w) p = tt
+    numbered_ends (Ok (NumberToken.Whole n e)) p = valued_ends e n (one_line s at e p.plain)
+    numbered_ends (Ok (NumberToken.Partial n e)) p = tt
+    numbered_ends (Err w) p = tt
 
     digit_ends : (origin : Source) → is decimal_digit x ≡ true → PlainEnds s at (numbered at (sourced origin (number_token s at)))
     digit_ends origin t = numbered_ends _ (sourced_ends s at origin (number_token s at) (number_ends s at x l (class_digit x (eqb-true (class_of x) decimal_digit t))))
@@ -202,7 +202,7 @@ module _ (s : List ℕ) where
         (λ _. by_test (PlainEnds s at) (is underscore_char x) _ _ (λ t. alphanumeric_ends Kind.Variable (of_class underscore_char t (λ k. omega arith)))
         (λ _. by_test (PlainEnds s at) (eqb x point) _ _ (λ t. end_ends (eqb-true x point t) (peek s (at + 1)) refl) (λ _. name_ends)))))
 
-    pub plain_token_ends : (origin : Source) (layout : Bool) (p : Plain) (k : Kind) (v : Value) (e : ℕ) → p ≡ plain_token origin s at layout x → p ≡ Plain.Whole k v e → Ending s at e
+    pub plain_token_ends : (origin : Source) (layout : Bool) (p : PlainToken) (k : Kind) (v : Value) (e : ℕ) → p ≡ plain_token origin s at layout x → p ≡ whole_token k v e → Ending s at e
     plain_token_ends origin layout p k v e f g = rw (sym f ∙ g) at (plain_ends origin layout)
 
 -- ---- any token
@@ -222,10 +222,10 @@ There s at (lexeme t e x) = StartsAt s at t e
 There s at (refused w) = Unit {0}
 
 module _ (s : List ℕ) (at : ℕ) where
-  of_plain : (p : Plain) → PlainEnds s at p → There s at (plain_lexeme at p)
+  of_plain : (p : PlainToken) → PlainEnds s at p → There s at (plain_lexeme at p)
   unfolding plain_lexeme
-  of_plain (Plain.Whole k v e) p = record { starts = refl; ahead = p.ahead; inside = p.inside }
-  of_plain (Plain.Refused w) p = tt
+  of_plain (Ok q) p = record { starts = refl; ahead = p.ahead; inside = p.inside }
+  of_plain (Err w) p = tt
 
   of_quoted : (k : Kind) (q : ℕ) (d : Quoted) → decode q at s (at + 1) ≡ d → There s at (quoted_to k at d)
   unfolding quoted_to
@@ -236,8 +236,8 @@ module _ (s : List ℕ) (at : ℕ) where
 
   of_look : (origin : Source) (layout : Bool) (r : Look) → lookahead s at ≡ r → There s at (lexeme_to origin s at layout r)
   unfolding lexeme_to quoted_lexeme
-  of_look origin layout (Look.Refused w) e = tt
-  of_look origin layout (Look.Byte x) e =
+  of_look origin layout (Err w) e = tt
+  of_look origin layout (Ok x) e =
       by_test (There s at) (is quote_char x) _ _
       (λ _. by_test (There s at) (eqb x single_quote) _ _ (λ _. of_quoted Kind.Name single_quote _ refl)
       (λ _. by_test (There s at) (eqb x double_quote) _ _ (λ _. of_quoted Kind.String double_quote _ refl) (λ _. tt)))
@@ -262,8 +262,8 @@ module _ (origin : Source) (layout : Bool) (s : List ℕ) (at : ℕ) (t : Token)
 
 of-layout : (origin : Source) (s : List ℕ) (from : ℕ) (r : Scan) → Before from (length s) r → Ends s from (after_layout origin s from r)
 unfolding after_layout
-of-layout origin s from (Refused w) b = tt
-of-layout origin s from (Stop at) b = there_ends s from at b.0 (lexeme_to origin s at (ltb from at) (lookahead s at)) (of_look s at origin (ltb from at) (lookahead s at) refl)
+of-layout origin s from (Err w) b = tt
+of-layout origin s from (Ok at) b = there_ends s from at b.0 (lexeme_to origin s at (ltb from at) (lookahead s at)) (of_look s at origin (ltb from at) (lookahead s at) refl)
 
 -- wherever the layout before it began
 of_since : (s : List ℕ) (from : ℕ) (l : Lexeme) → Ends s from l → Ends s from (lexeme_since from l)

@@ -12,15 +12,15 @@ use Rattle.lexer.specs.Cursor.{move_to, Valid}
 use Rattle.lexer.specs.Digits.{is_digit, digits_at}
 use Rattle.lexer.specs.Items.{stop, on, same}
 use Rattle.lexer.specs.Look.{front, needed, lookahead}
-use Rattle.lexer.specs.Quoted.{escape_of, coded, closed, numeric_escape, escape_to, escape, quote_to, unquotable, item_to, quoted_item, Quoted, whole, refused, with_char, out_of_limit, item_turn, quoted_turn, unended, decode, measured, Writes}
+use Rattle.lexer.specs.Quoted.{escape_of, coded, closed, numeric_escape, escape_to, escape, quote_to, unquotable, item_to, quoted_item, Quoted, whole, refused, with_char, out_of_limit, item_turn, quoted_turn, unended, decode, measured, Writes, QuotedItem, measure}
 use Rattle.lexer.specs.Stretch.{in_stretch}
-use Rattle.lexer.specs.declared.chars.Look.{Look}
+use Rattle.lexer.specs.Look.{Look}
+use Rattle.std.specs.declared.result.Result.TheVariants.{Ok, Err}
 use Rattle.lexer.specs.declared.cursor.Cursor.{Cursor}
 use Rattle.lexer.specs.declared.digits.Digits.{Digits}
-use Rattle.lexer.specs.declared.quoted.Item.{Item}
-use Rattle.lexer.specs.declared.quoted.Item.TheVariants.{Char, Beyond, Skip, Close, Refused}
-use Rattle.lexer.specs.declared.quoted.Measure.{Measure}
+use Rattle.lexer.specs.declared.quoted.Item.TheVariants.{Char, Beyond, Skip, Close}
 use Rattle.lexer.specs.declared.refusal.Fault.{Fault}
+use Rattle.lexer.proofs.Parts.{measure_parts}
 use Rattle.lexer.proofs.Cursors.{move_offset, move_valid}
 use Rattle.lexer.proofs.Items.{Carries, items_hold, items_stop, items_on}
 use Rattle.lexer.proofs.Looks.{Seen, look_byte}
@@ -44,15 +44,15 @@ pub record Closing (q : ℕ) (s : List ℕ) (at e : ℕ) : Type 0 where
   pub it : get_or s at 0 ≡ q
   pub whole : Plain s at e
 
-abbrev Ends : ℕ → List ℕ → ℕ → Item → Type 0
-Ends q s at (Char b e) = Plain s at e
-Ends q s at (Beyond e) = Plain s at e
-Ends q s at (Skip e) = Continued s at e
-Ends q s at (Close e) = Closing q s at e
-Ends q s at (Refused w) = Unit {0}
+abbrev Ends : ℕ → List ℕ → ℕ → QuotedItem → Type 0
+Ends q s at (Ok (Char b e)) = Plain s at e
+Ends q s at (Ok (Beyond e)) = Plain s at e
+Ends q s at (Ok (Skip e)) = Continued s at e
+Ends q s at (Ok (Close e)) = Closing q s at e
+Ends q s at (Err w) = Unit {0}
 
 module _ (q : ℕ) (s : List ℕ) (at : ℕ) where
-  choice : (t : Bool) (a b : Item) → (t ≡ true → Ends q s at a) → (t ≡ false → Ends q s at b) → Ends q s at (cond t a b)
+  choice : (t : Bool) (a b : QuotedItem) → (t ≡ true → Ends q s at a) → (t ≡ false → Ends q s at b) → Ends q s at (cond t a b)
   choice t a b p r = by_test (Ends q s at) t a b p r
 
   code_ends : (n e : ℕ) → Plain s at e → Ends q s at (coded n e)
@@ -68,8 +68,8 @@ module _ (q : ℕ) (s : List ℕ) (at : ℕ) where
       d = digits_at base 0 s from
 
       go : (r : Look) → lookahead s d.end ≡ r → Ends q s at (closed token from d r)
-      go (Look.Refused w) e = tt
-      go (Look.Byte x) e =
+      go (Err w) e = tt
+      go (Ok x) e =
           choice (eqb x backslash) _ _
           (λ t. choice (eqb d.end from) _ _ (λ u. tt)
           (λ u. code_ends d.value (d.end + 1) (plain_step s at d.end (plain_digits s at from p base 0 few) x (look_byte s d.end x e)
@@ -85,8 +85,8 @@ module _ (q : ℕ) (s : List ℕ) (at : ℕ) where
       p = plain_char s at backslash l (λ g. omega arith)
 
       go : (r : Look) → lookahead s (at + 1) ≡ r → Ends q s at (escape_to token s (at + 1) r)
-      go (Look.Refused w) e = tt
-      go (Look.Byte x) e =
+      go (Err w) e = tt
+      go (Ok x) e =
           let m = look_byte s (at + 1) x e in
           choice (eqb x newline) _ _
           (λ t. record { span = record { ahead = omega arith; inside = omega arith }; end = omega arith; first = l.it; second = m.it ∙ eqb-true x newline t })
@@ -104,8 +104,8 @@ module _ (q : ℕ) (s : List ℕ) (at : ℕ) where
       p = plain_char s at q l n
 
       go : (r : Look) → lookahead s (at + 1) ≡ r → Ends q s at (quote_to q (at + 1) r)
-      go (Look.Refused w) e = tt
-      go (Look.Byte x) e =
+      go (Err w) e = tt
+      go (Ok x) e =
           choice (eqb x q) _ _
           (λ t. plain_step s at (at + 1) p x (look_byte s (at + 1) x e) (λ g. n (sym (eqb-true x q t) ∙ g)))
           (λ t. record { end = refl; it = l.it; whole = p })
@@ -115,8 +115,8 @@ module _ (q : ℕ) (s : List ℕ) (at : ℕ) where
   item_ends token = go (lookahead s at) refl
     where
       go : (r : Look) → lookahead s at ≡ r → Ends q s at (item_to q token s at r)
-      go (Look.Refused w) e = tt
-      go (Look.Byte x) e =
+      go (Err w) e = tt
+      go (Ok x) e =
           let l = look_byte s at x e in
           choice (among x unquotable) _ _ (λ t. tt)
           (λ t. let n : x ≡ newline → ⊥ = (λ g. let z : ◌≡◌ {A = ℕ} 0 1 = cc in omega arith) in
@@ -125,24 +125,24 @@ module _ (q : ℕ) (s : List ℕ) (at : ℕ) where
 
   -- ---- the same of an item that is known
   module _ (token e : ℕ) where
-    ends : (i : Item) → quoted_item q token s at ≡ i → Ends q s at i
+    ends : (i : QuotedItem) → quoted_item q token s at ≡ i → Ends q s at i
     ends i f = rw f at (item_ends token)
 
-    pub char_ends : (b : ℕ) → quoted_item q token s at ≡ Char b e → Plain s at e
-    char_ends b f = ends (Char b e) f
+    pub char_ends : (b : ℕ) → quoted_item q token s at ≡ Ok (Char b e) → Plain s at e
+    char_ends b f = ends (Ok (Char b e)) f
 
-    pub beyond_ends : quoted_item q token s at ≡ Beyond e → Plain s at e
-    beyond_ends f = ends (Beyond e) f
+    pub beyond_ends : quoted_item q token s at ≡ Ok (Beyond e) → Plain s at e
+    beyond_ends f = ends (Ok (Beyond e)) f
 
-    pub skip_ends : quoted_item q token s at ≡ Skip e → Continued s at e
-    skip_ends f = ends (Skip e) f
+    pub skip_ends : quoted_item q token s at ≡ Ok (Skip e) → Continued s at e
+    skip_ends f = ends (Ok (Skip e)) f
 
-    pub close_ends : quoted_item q token s at ≡ Close e → Closing q s at e
-    close_ends f = ends (Close e) f
+    pub close_ends : quoted_item q token s at ≡ Ok (Close e) → Closing q s at e
+    close_ends f = ends (Ok (Close e)) f
 
 -- a byte from space to tilde, but the quote and the backslash, stands for itself
 pub ordinary_char : (q token : ℕ) (s : List ℕ) (at : ℕ) → at < length s → in_stretch space 126 q backslash (get_or s at 0) ≡ true
-    → quoted_item q token s at ≡ Char (get_or s at 0) (at + 1)
+    → quoted_item q token s at ≡ Ok (Char (get_or s at 0) (at + 1))
 unfolding front needed item_to
 ordinary_char q token s at h t =
     let x = get_or s at 0 in
@@ -179,16 +179,16 @@ module _ (q token : ℕ) (s : List ℕ) where
   past at h = cc (drop_end s at h)
 
   -- what holds of a quoted token, by its items
-  module _ (P : ℕ → Quoted → Type 0) (closes : (at e : ℕ) → Span s at e → P at (whole [] e)) (refuses : (at : ℕ) (w : Fault) → quoted_item q token s at ≡ Refused w → P at (refused w))
+  module _ (P : ℕ → Quoted → Type 0) (closes : (at e : ℕ) → Span s at e → P at (whole [] e)) (refuses : (at : ℕ) (w : Fault) → quoted_item q token s at ≡ Err w → P at (refused w))
       (chars : (at e b : ℕ) → Span s at e → (d : Quoted) → P e d → P at (with_char b d)) (limits : (at e : ℕ) → Span s at e → (d : Quoted) → P e d → P at (out_of_limit token d))
       (skips : (at e : ℕ) → Span s at e → (d : Quoted) → P e d → P at d) where
-    carries : (at : ℕ) (i : Item) → quoted_item q token s at ≡ i → Ends q s at i → Carries P (length s) at (item_turn token i)
+    carries : (at : ℕ) (i : QuotedItem) → quoted_item q token s at ≡ i → Ends q s at i → Carries P (length s) at (item_turn token i)
     unfolding item_turn
-    carries at (Char b e) f p = record { ahead = p.span.ahead; inside = p.span.inside; rest = chars at e b p.span }
-    carries at (Beyond e) f p = record { ahead = p.span.ahead; inside = p.span.inside; rest = limits at e p.span }
-    carries at (Skip e) f p = record { ahead = p.span.ahead; inside = p.span.inside; rest = skips at e p.span }
-    carries at (Close e) f p = closes at e p.whole.span
-    carries at (Refused w) f p = refuses at w f
+    carries at (Ok (Char b e)) f p = record { ahead = p.span.ahead; inside = p.span.inside; rest = chars at e b p.span }
+    carries at (Ok (Beyond e)) f p = record { ahead = p.span.ahead; inside = p.span.inside; rest = limits at e p.span }
+    carries at (Ok (Skip e)) f p = record { ahead = p.span.ahead; inside = p.span.inside; rest = skips at e p.span }
+    carries at (Ok (Close e)) f p = closes at e p.whole.span
+    carries at (Err w) f p = refuses at w f
 
     pub decode_hold : (at : ℕ) → P at (decode q token s at)
     decode_hold = items_hold (quoted_turn q token s) unended s P past (λ a. carries a (quoted_item q token s a) refl (item_ends q s a token))
@@ -200,27 +200,27 @@ module _ (q token : ℕ) (s : List ℕ) where
         (λ a k p. spans s a k p.ahead) at)
 
     -- by the item at its front
-    pub decode-refused : (w : Fault) → quoted_item q token s at ≡ Refused w → decode q token s at ≡ refused w
+    pub decode-refused : (w : Fault) → quoted_item q token s at ≡ Err w → decode q token s at ≡ refused w
     unfolding item_turn
     decode-refused w f = items_stop (quoted_turn q token s) unended s at (refused w) (past at) (ap (item_turn token) f)
 
     module _ (e : ℕ) where
-      pub decode-close : quoted_item q token s at ≡ Close e → decode q token s at ≡ whole [] e
+      pub decode-close : quoted_item q token s at ≡ Ok (Close e) → decode q token s at ≡ whole [] e
       unfolding item_turn
       decode-close f = items_stop (quoted_turn q token s) unended s at (whole [] e) (past at) (ap (item_turn token) f)
 
       on_turn : (f : Quoted → Quoted) → quoted_turn q token s at ≡ on e f → Span s at e → decode q token s at ≡ f (decode q token s e)
       on_turn f g p = items_on (quoted_turn q token s) unended s at e f g p.ahead p.inside
 
-      pub decode_skip : quoted_item q token s at ≡ Skip e → decode q token s at ≡ decode q token s e
+      pub decode_skip : quoted_item q token s at ≡ Ok (Skip e) → decode q token s at ≡ decode q token s e
       unfolding item_turn
       decode_skip f = on_turn same (ap (item_turn token) f) (skip_ends q s at token e f).span
 
-      pub decode-beyond : quoted_item q token s at ≡ Beyond e → decode q token s at ≡ out_of_limit token (decode q token s e)
+      pub decode-beyond : quoted_item q token s at ≡ Ok (Beyond e) → decode q token s at ≡ out_of_limit token (decode q token s e)
       unfolding item_turn
       decode-beyond f = on_turn (out_of_limit token) (ap (item_turn token) f) (beyond_ends q s at token e f).span
 
-      pub decode_char : (b : ℕ) → quoted_item q token s at ≡ Char b e → decode q token s at ≡ with_char b (decode q token s e)
+      pub decode_char : (b : ℕ) → quoted_item q token s at ≡ Ok (Char b e) → decode q token s at ≡ with_char b (decode q token s e)
       unfolding item_turn
       decode_char b f = on_turn (with_char b) (ap (item_turn token) f) (char_ends q s at token e b f).span
 
@@ -235,13 +235,13 @@ pub record Measured (q token : ℕ) (s : List ℕ) (c : Cursor) (n : ℕ) (next 
   pub span : Span s c.offset end
   pub moved : next ≡ move_to s c end
 
-module _ (q token : ℕ) (s : List ℕ) (c : Cursor) (n : ℕ) (next : Cursor) (f : measured s c (decode q token s c.offset) ≡ Measure.Whole n next) where
+module _ (q token : ℕ) (s : List ℕ) (c : Cursor) (n : ℕ) (next : Cursor) (f : measured s c (decode q token s c.offset) ≡ measure n next) where
   pub measured_whole : Measured q token s c n next
   unfolding measured
   measured_whole = go (decode q token s c.offset) refl f
     where
-      go : (d : Quoted) → decode q token s c.offset ≡ d → measured s c d ≡ Measure.Whole n next → Measured q token s c n next
-      go (whole bs e) g h = record { bytes = bs; end = e; reads = g; count = cc; span = decode_ends q token s c.offset bs e g; moved = cc }
+      go : (d : Quoted) → decode q token s c.offset ≡ d → measured s c d ≡ measure n next → Measured q token s c n next
+      go (whole bs e) g h = let p = measure_parts h in record { bytes = bs; end = e; reads = g; count = p.0; span = decode_ends q token s c.offset bs e g; moved = cc (p.1) }
       go (refused w) g h = let z : ◌≡◌ {A = ℕ} 0 1 = cc in absurd (omega arith)
 
   pub measured_writes : (room : ℕ) → n ≤ room → Writes q token s c.offset n room

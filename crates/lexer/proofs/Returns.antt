@@ -14,27 +14,27 @@ use Rattle.lexer.specs.Digits.{digit_of, digits, digits_at}
 use Rattle.lexer.specs.Items.{Turn, after, items}
 use Rattle.lexer.specs.Layout.{begins_with, past, unclosed, comment_opened, bracketed_comment, slashed, layout_text_of, layout_text, layout_texts, ended, layout_end}
 use Rattle.lexer.specs.Look.{front, peek, needed, lookahead}
-use Rattle.lexer.specs.Name.{run_end, name_token}
-use Rattle.lexer.specs.Number.{radix_closed, radix_to, radix_constant, character_code, zero_to, exponent_ends, exponent_digits, sign_to, letter_to, exponent_to, exponent, integer_to, number_token}
+use Rattle.lexer.specs.Name.{run_end, name_token, whole_token}
+use Rattle.lexer.specs.Number.{radix_closed, radix_to, radix_constant, character_code, zero_to, exponent_ends, exponent_digits, sign_to, letter_to, exponent_to, exponent, integer_to, number_token, NumberRead}
 use Rattle.lexer.specs.Number as Number
-use Rattle.lexer.specs.Quoted.{escape_of, closed, numeric_escape, escape_to, escape, quote_to, item_to, quoted_item, Quoted, with_char, out_of_limit, item_turn, quoted_turn, unended, decode}
-use Rattle.lexer.specs.Refusal.{fault}
+use Rattle.lexer.specs.Quoted.{escape_of, closed, numeric_escape, escape_to, escape, quote_to, item_to, quoted_item, Quoted, with_char, out_of_limit, item_turn, quoted_turn, unended, decode, QuotedItem}
+use Rattle.lexer.specs.Refusal.{fault, refuse}
 use Rattle.lexer.specs.Token.{mark, bar_to, point_to, end_token, solo_to, numbered, sourced, plain_token, Lexeme, lexeme, refused, plain_lexeme, quoted_to, quoted_lexeme, lexeme_to, after_layout, behind_layout, lexeme_since, read_lexeme, answered, next_token}
 use Rattle.lexer.specs.declared.refusal.Fault.{Fault}
 use Rattle.lexer.specs.declared.refusal.Refusal.TheVariants.{BadQuoted}
 use Rattle.lexer.specs.declared.chars.Peek.{Peek}
-use Rattle.lexer.specs.declared.chars.Look.{Look}
+use Rattle.lexer.specs.Look.{Look}
+use Rattle.std.specs.declared.result.Result.TheVariants.{Ok, Err}
 use Rattle.lexer.specs.declared.cursor.Cursor.{Cursor}
-use Rattle.lexer.specs.declared.cursor.Scan.{Scan}
+use Rattle.lexer.specs.Cursor.{Scan}
 use Rattle.lexer.specs.declared.digits.Digits.{Digits}
 use Rattle.lexer.specs.declared.kind.Kind.TheVariants.{Name, String, End}
 use Rattle.lexer.specs.declared.kind.Value.TheVariants.{Nothing}
-use Rattle.lexer.specs.declared.kind.Plain.{Plain}
 use Rattle.lexer.specs.declared.number.Numeral.TheVariants.{Integer}
 use Rattle.lexer.specs.declared.number.NumberToken.{NumberToken}
 use Rattle.lexer.specs.declared.quoted.Item.{Item}
-use Rattle.lexer.specs.declared.token.Answer.{Answer}
-use Rattle.lexer.specs.declared.token.Mark.{Mark}
+use Rattle.lexer.specs.Token.{Mark}
+use Rattle.std.specs.declared.option.Option.TheVariants.{Some, None}
 use Rattle.lexer.specs.declared.token.Source.{Source}
 use Rattle.lexer.specs.declared.token.Source.TheVariants.{File, Field}
 use Rattle.lexer.proofs.Looks.{Strange}
@@ -52,17 +52,17 @@ blanked s = map blank s
 
 module _ (s : List ℕ) (at : ℕ) where
   -- behind a dot at `at`
-  pub mark_before : peek s (at + 1) ≡ Peek.Byte carriage_return → end_token s at ≡ Plain.Whole End Nothing (at + 1)
+  pub mark_before : peek s (at + 1) ≡ Peek.Byte carriage_return → end_token s at ≡ whole_token End Nothing (at + 1)
   unfolding point_to class_of
   mark_before e = rw e
 
   -- in a quoted item of the token at `token`, raw and behind a backslash
-  module _ (token : ℕ) (e : lookahead s at ≡ Look.Byte carriage_return) where
-    pub raw_return : (q : ℕ) → quoted_item q token s at ≡ Item.Refused (fault BadQuoted token)
+  module _ (token : ℕ) (e : lookahead s at ≡ Ok carriage_return) where
+    pub raw_return : (q : ℕ) → quoted_item q token s at ≡ Err (fault BadQuoted token)
     unfolding item_to
     raw_return q = rw e
 
-    pub escaped_return : escape token s at ≡ Item.Refused (fault BadQuoted token)
+    pub escaped_return : escape token s at ≡ Err (fault BadQuoted token)
     unfolding escape_to escape_of digit_of
     escaped_return = rw e
 
@@ -194,7 +194,7 @@ module _ (s : List ℕ) where
   peek_stays : (at : ℕ) → Stays (Peek.Byte space) (Peek.Byte carriage_return) (peek s' at) (peek s at)
   peek_stays at = rw (drop-same at s) (front_stays (drop at s))
 
-  look_stays : (at : ℕ) → Stays (Look.Byte space) (Look.Byte carriage_return) (lookahead s' at) (lookahead s at)
+  look_stays : (at : ℕ) → Stays (Ok space) (Ok carriage_return) (lookahead s' at) (lookahead s at)
   unfolding needed
   look_stays at = stays_by (needed at) (peek_stays at)
 
@@ -211,8 +211,8 @@ module _ (s : List ℕ) where
         go (kept {a = Peek.Byte x}) = h x
         go swapped = e
 
-    by_look : (rule : List ℕ → Look → A) → ((w : Fault) → P (rule s' (Look.Refused w)) (rule s (Look.Refused w)))
-        → ((x : ℕ) → P (rule s' (Look.Byte x)) (rule s (Look.Byte x))) → P (rule s' (Look.Byte space)) (rule s (Look.Byte carriage_return)) → (at : ℕ)
+    by_look : (rule : List ℕ → Look → A) → ((w : Fault) → P (rule s' (Err w)) (rule s (Err w)))
+        → ((x : ℕ) → P (rule s' (Ok x)) (rule s (Ok x))) → P (rule s' (Ok space)) (rule s (Ok carriage_return)) → (at : ℕ)
         → P (rule s' (lookahead s' at)) (rule s (lookahead s at))
     unfolding needed
     by_look rule f h e at = by_peek (λ z p. rule z (needed at p)) (f _) (f _) h e at
@@ -231,7 +231,7 @@ module _ (s : List ℕ) where
   text_same : (at : ℕ) → layout_text s' at ≡ layout_text s at
   unfolding layout_text_of class_of
   text_same at =
-      by_look ◌≡◌ (λ z. layout_text_of z at) (λ w. refl) (λ x. rw (past-at (newline ∷ []) Scan.Stop refl (at + 1), slash-same at)) refl at
+      by_look ◌≡◌ (λ z. layout_text_of z at) (λ w. refl) (λ x. rw (past-at (newline ∷ []) Ok refl (at + 1), slash-same at)) refl at
 
   layout-same : (at : ℕ) → layout_end s' at ≡ layout_end s at
   layout-same at =
@@ -249,22 +249,22 @@ module _ (s : List ℕ) where
     escape-same at = by_look ◌≡◌ (λ z. escape_to token z at) (λ w. refl) (λ x. rw (numeric_same 8 at, numeric_same 16 (at + 1))) refl at
 
     -- the one rule that tells the two apart
-    item_same : (at : ℕ) → Unless Item.Refused (quoted_item q token s' at) (quoted_item q token s at)
+    item_same : (at : ℕ) → Unless Err (quoted_item q token s' at) (quoted_item q token s at)
     unfolding item_to quote_to
     item_same at =
         let quote = alike (quote_to q (at + 1)) (rw apart) (look_stays (at + 1)) in
-        by_look (Unless Item.Refused) (λ z. item_to q token z at) (λ w. same) (λ x. since (rw (quote, escape-same (at + 1)))) (four token) at
+        by_look (Unless Err) (λ z. item_to q token z at) (λ w. same) (λ x. since (rw (quote, escape-same (at + 1)))) (four token) at
 
     -- a refusal ends the token, another item is passed
-    turn-same : {i j : Item} → Unless Item.Refused i j → (next next' : ℕ → Quoted) → ((e : ℕ) → Unless Quoted.refused (next e) (next' e))
+    turn-same : {i j : QuotedItem} → Unless Err i j → (next next' : ℕ → Quoted) → ((e : ℕ) → Unless Quoted.refused (next e) (next' e))
         → Unless Quoted.refused (after (item_turn token i) next) (after (item_turn token j) next')
     unfolding after item_turn with_char out_of_limit
     turn-same (four o) next next' h = four o
-    turn-same (same {a = Item.Char b e}) next next' h = through (with_char b) (h e)
-    turn-same (same {a = Item.Beyond e}) next next' h = through (out_of_limit token) (h e)
-    turn-same (same {a = Item.Skip e}) next next' h = h e
-    turn-same (same {a = Item.Close e}) next next' h = same
-    turn-same (same {a = Item.Refused w}) next next' h = same
+    turn-same (same {a = Ok (Item.Char b e)}) next next' h = through (with_char b) (h e)
+    turn-same (same {a = Ok (Item.Beyond e)}) next next' h = through (out_of_limit token) (h e)
+    turn-same (same {a = Ok (Item.Skip e)}) next next' h = h e
+    turn-same (same {a = Ok (Item.Close e)}) next next' h = same
+    turn-same (same {a = Err w}) next next' h = same
 
     decode-same : (at : ℕ) → Unless Quoted.refused (decode q token s' at) (decode q token s at)
     decode-same at =
@@ -276,7 +276,7 @@ module _ (s : List ℕ) where
   unfolding radix_to radix_closed digit_of
   radix_same base at = by_look ◌≡◌ (λ z. radix_to base z at) (λ w. refl) byte (byte space) (at + 2)
     where
-      byte : (x : ℕ) → radix_to base s' at (Look.Byte x) ≡ radix_to base s at (Look.Byte x)
+      byte : (x : ℕ) → radix_to base s' at (Ok x) ≡ radix_to base s at (Ok x)
       byte x =
           let d = digits_at base 0 s (at + 2) in
           rw (digits-at base 0 (at + 2), alike (radix_closed (Integer d.value) d.end) refl (peek_stays d.end))
@@ -306,7 +306,7 @@ module _ (s : List ℕ) where
 
   -- ---- the token at `at`
   module _ (at : ℕ) where
-    zero_same : (x : ℕ) → Unless NumberToken.Refused (zero_to s' at x) (zero_to s at x)
+    zero_same : (x : ℕ) → Unless Err (zero_to s' at x) (zero_to s at x)
     unfolding zero_to character_code
     zero_same x =
         either (eqb x small_x) (since (radix_same 16 at))
@@ -314,11 +314,11 @@ module _ (s : List ℕ) where
         (either (eqb x small_b) (since (radix_same 2 at))
         (either (eqb x single_quote) (through (character_code at) (item_same single_quote at refl (at + 2))) same)))
 
-    number_same : Unless NumberToken.Refused (number_token s' at) (number_token s at)
+    number_same : Unless Err (number_token s' at) (number_token s at)
     unfolding integer_to zero_to
     number_same =
         let d = digits_at 10 0 s at in
-        rw (digits-at 10 0 at) (by_peek (Unless NumberToken.Refused) (λ z. integer_to z at d) same same
+        rw (digits-at 10 0 at) (by_peek (Unless Err) (λ z. integer_to z at d) same same
         (λ x. either (eqb x underscore) same
         (either (eqb x point) (since (point-same d)) (either (eqb d.end (at + 1) && eqb d.value 0) (zero_same x) same))) same d.end)
 
@@ -332,14 +332,14 @@ module _ (s : List ℕ) where
 
     solo_same : (x : ℕ) (m : Mark) → solo_to s' at x m ≡ solo_to s at x m
     unfolding solo_to bar_to
-    solo_same x (Mark.Is k) = refl
-    solo_same x Mark.Other = rw (alike (bar_to at) refl (look_stays (at + 1)), name_same x)
+    solo_same x (Some k) = refl
+    solo_same x None = rw (alike (bar_to at) refl (look_stays (at + 1)), name_same x)
 
-    sourced-same : (origin : Source) {a b : NumberToken} → Unless NumberToken.Refused a b → Unless NumberToken.Refused (sourced origin a) (sourced origin b)
+    sourced-same : (origin : Source) {a b : NumberRead} → Unless Err a b → Unless Err (sourced origin a) (sourced origin b)
     sourced-same File p = p
     sourced-same Field p = through (sourced Field) p
 
-    plain_same : (origin : Source) (layout : Bool) (x : ℕ) → Unless Plain.Refused (plain_token origin s' at layout x) (plain_token origin s at layout x)
+    plain_same : (origin : Source) (layout : Bool) (x : ℕ) → Unless Err (plain_token origin s' at layout x) (plain_token origin s at layout x)
     unfolding plain_token numbered
     plain_same origin layout x =
         either (is decimal_digit x) (through (numbered at) (sourced-same origin number_same))
@@ -363,8 +363,8 @@ module _ (s : List ℕ) where
   module _ (origin : Source) where
     after-layout : (from : ℕ) (r : Scan) → Unless refused (after_layout origin s' from r) (after_layout origin s from r)
     unfolding after_layout
-    after-layout from (Scan.Refused w) = same
-    after-layout from (Scan.Stop at) = token-same at origin (ltb from at)
+    after-layout from (Err w) = same
+    after-layout from (Ok at) = token-same at origin (ltb from at)
 
     behind-layout : (from : ℕ) → Unless refused (behind_layout origin s' from) (behind_layout origin s from)
     behind-layout from = rw (layout-same from) (after-layout from (layout_end s from))
@@ -375,13 +375,13 @@ module _ (s : List ℕ) where
     lexeme_same from = through (lexeme_since from) (behind-layout from)
 
     module _ (c : Cursor) where
-      answer-same : {a b : Lexeme} → Unless refused a b → Unless (λ w. Answer.Refused w c) (answered s' c a) (answered s c b)
+      answer-same : {a b : Lexeme} → Unless refused a b → Unless (λ w. refuse w c) (answered s' c a) (answered s c b)
       unfolding answered
       answer-same (four o) = four o
       answer-same (same {a = refused w}) = same
       answer-same (same {a = lexeme t e x}) = since (rw (move_same c e))
 
       -- what is answered
-      pub answer-alike : (next_token origin (blanked s) c ≡ next_token origin s c) ⊎ ((o : ℕ) × (next_token origin s c ≡ Answer.Refused (fault BadQuoted o) c))
+      pub answer-alike : (next_token origin (blanked s) c ≡ next_token origin s c) ⊎ ((o : ℕ) × (next_token origin s c ≡ refuse (fault BadQuoted o) c))
       answer-alike =
-          or_four {refuse = λ w. Answer.Refused w c} (rw (length-map s blank) (either (valid (length s) c) (answer-same (lexeme_same c.offset)) same))
+          or_four {refuse = λ w. refuse w c} (rw (length-map s blank) (either (valid (length s) c) (answer-same (lexeme_same c.offset)) same))

@@ -1,5 +1,6 @@
 -- A run of bytes whose classes are from lo to hi: the ways out of a turn of its scan. Assumes nothing.
-use Prim.Native.Nat.{ℕ, ◌+◌, ◌<◌, ◌≤◌}
+use Prim.Native.Nat.{ℕ, ◌+◌, ◌<◌, ◌≤◌, max}
+use native.Mathlib.Decide.{dec_le}
 use mathlib.Core.Path.{◌≡◌, refl, ◌∙◌}
 use mathlib.Core.Bool.{Bool, true, false}
 use mathlib.Core.List.{List}
@@ -11,8 +12,8 @@ use Rattle.lexer.specs.Chars.{class_of, is, within}
 use Rattle.lexer.specs.Name.{run_stop, run_end}
 use Rattle.lexer.specs.Refusal.{fault}
 use Rattle.lexer.specs.declared.refusal.Refusal.TheVariants.{EndOfText}
-use Rattle.lexer.specs.declared.cursor.Scan.{Scan}
-use Rattle.lexer.specs.declared.cursor.Scan.TheVariants.{Refused}
+use Rattle.lexer.specs.Cursor.{Scan}
+use Rattle.std.specs.declared.result.Result.TheVariants.{Err}
 use Rattle.lexer.proofs.Steps.{drop_at, drop_end}
 
 -- a run of one class
@@ -32,9 +33,14 @@ abbrev pub Same : ℕ → ℕ → List ℕ → ℕ → ℕ → Type 0
 Same lo hi s from at = run_end lo hi from (drop from s) ≡ run_end lo hi at (drop at s)
 
 module _ (lo hi : ℕ) (s : List ℕ) (from at : ℕ) (i : Same lo hi s from at) where
-  pub run-ended : length s ≤ at → Refused (fault EndOfText at) ≡ run_end lo hi from (drop from s)
+  -- behind the last byte; at once, where it starts beyond it
+  pub run-ended : (e : ℕ) → length s ≤ at → (from ≤ length s → at ≤ length s) → e ≡ max from (length s) → Err (fault EndOfText e) ≡ run_end lo hi from (drop from s)
   unfolding run_end
-  run-ended h = cc (drop_end s at h)
+  run-ended e h k m = go (dec_le from (length s))
+    where
+      go : Dec (from ≤ length s) → Err (fault EndOfText e) ≡ run_end lo hi from (drop from s)
+      go (yes l) = let n : e ≡ at = omega (arith, k l) in cc (drop_end s at h)
+      go (no l) = let n : e ≡ from = omega arith in cc (drop_end s from (omega arith))
 
   -- t says whether the byte at `at` is of those classes
   module _ (t : Bool) (h : at < length s) (e : t ≡ within lo hi (class_of (get_or s at 0))) where

@@ -11,25 +11,24 @@ use Rattle.lexer.specs.Cursor.{step, move_to}
 use Rattle.lexer.specs.Layout.{begins_with, past, moved}
 use Rattle.lexer.specs.Stretch.{in_stretch, stretch_end}
 use Rattle.lexer.specs.declared.cursor.Cursor.{Cursor}
-use Rattle.lexer.specs.declared.cursor.Moved.{Moved}
-use Rattle.lexer.specs.declared.cursor.Scan.{Scan}
-use Rattle.lexer.specs.declared.cursor.Scan.TheVariants.{Stop, Refused}
+use Rattle.std.specs.declared.result.Result.TheVariants.{Ok, Err}
+use Rattle.lexer.specs.Cursor.{Scan}
 use Rattle.lexer.proofs.Cursors.{both, move_step, move_by}
 use Rattle.lexer.proofs.Steps.{drop_at}
 use Rattle.lexer.proofs.Stretches.{InStretch, Passed, along_stretch, in-stretch, stretch_known}
 
 -- a scan stops from lo to hi, both included, if it stops
 abbrev pub Between : ℕ → ℕ → Scan → Type 0
-Between lo hi (Stop e) = (lo ≤ e) × (e ≤ hi)
-Between lo hi (Refused w) = Unit {0}
+Between lo hi (Ok e) = (lo ≤ e) × (e ≤ hi)
+Between lo hi (Err w) = Unit {0}
 
 pub choice : (lo hi : ℕ) (t : Bool) (a b : Scan) → (t ≡ true → Between lo hi a) → (t ≡ false → Between lo hi b) → Between lo hi (cond t a b)
 choice lo hi true a b p q = p refl
 choice lo hi false a b p q = q refl
 
 pub wider : (lo hi lo' hi' : ℕ) (r : Scan) → lo' ≤ lo → hi ≤ hi' → Between lo hi r → Between lo' hi' r
-wider lo hi lo' hi' (Stop e) p q h = omega arith
-wider lo hi lo' hi' (Refused w) p q h = tt
+wider lo hi lo' hi' (Ok e) p q h = omega arith
+wider lo hi lo' hi' (Err w) p q h = tt
 
 -- what stands at the front is no longer than the whole
 fits : (xs ys : List ℕ) → begins_with xs ys ≡ true → length xs ≤ length ys
@@ -56,14 +55,14 @@ module _ (mark : List ℕ) (none : ℕ → Scan) (k : ℕ) (long : k ≤ length 
 module _ (s : List ℕ) (c : Cursor) (h : c.offset < length s) where
   pub moved-step : (r : Scan) → Between (c.offset + 1) (length s) r → moved s c r ≡ moved s (step c (get_or s c.offset 0)) r
   unfolding moved
-  moved-step (Stop e) b = rw (move_step s c e (omega arith) b.1)
-  moved-step (Refused w) b = refl
+  moved-step (Ok e) b = rw (move_step s c e (omega arith) b.1)
+  moved-step (Err w) b = refl
 
 -- a scan that stops behind b, from the cursor or from the one at b
 pub moved-by : (s : List ℕ) (c : Cursor) (b : ℕ) (r : Scan) → c.offset ≤ b → Between b (length s) r → moved s c r ≡ moved s (move_to s c b) r
 unfolding moved
-moved-by s c b (Stop e) h k = ap Moved.To (move_by s c e (omega (arith, k.0)) k.1 b h k.0)
-moved-by s c b (Refused w) h k = refl
+moved-by s c b (Ok e) h k = ap Ok (move_by s c e (omega (arith, k.0)) k.1 b h k.0)
+moved-by s c b (Err w) h k = refl
 
 -- along a stretch of plain bytes, of which none begins the mark
 module _ (mark : List ℕ) (none : ℕ → Scan) (s : List ℕ) where

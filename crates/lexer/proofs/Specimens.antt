@@ -13,14 +13,14 @@ use Rattle.lexer.specs.Digits.{digit_of, digits}
 use Rattle.lexer.specs.Float.{scale, within_limits}
 use Rattle.lexer.specs.Items.{after, items}
 use Rattle.lexer.specs.Layout.{past, comment_opened, slashed, layout_text_of, layout_turn}
-use Rattle.lexer.specs.LayoutCall.{layout_given, next_layout}
+use Rattle.lexer.specs.LayoutCall.{layout_given, next_layout, LayoutAnswer}
 use Rattle.lexer.specs.Look.{front, needed}
 use Rattle.lexer.specs.Name.{run_end, run_token, name_token}
 use Rattle.lexer.specs.Number.{radix_closed, radix_to, character_code, zero_to, exponent_ends, sign_to, letter_to, exponent_to, float, point_to, integer_to}
 use Rattle.lexer.specs.Quoted.{quote_to, item_to}
-use Rattle.lexer.specs.Refusal.{fault}
+use Rattle.lexer.specs.Refusal.{fault, refuse}
 use Rattle.lexer.specs.Stretch.{run_to}
-use Rattle.lexer.specs.Token.{floated, valued, numbered, plain_token, token, plain_lexeme, lexeme_to, after_layout, token_since, lexeme_since, answered, next_token}
+use Rattle.lexer.specs.Token.{floated, valued, numbered, plain_token, token, plain_lexeme, lexeme_to, after_layout, token_since, lexeme_since, answered, next_token, token_read, Answer}
 use Rattle.lexer.specs.declared.refusal.Refusal.{Refusal}
 use Rattle.lexer.specs.declared.refusal.Refusal.TheVariants.{EndOfText, UnclosedComment, OutOfLimit}
 use Rattle.lexer.specs.declared.cursor.Cursor.{Cursor}
@@ -28,10 +28,10 @@ use Rattle.lexer.specs.declared.kind.Kind.TheVariants.{Name, Number}
 use Rattle.lexer.specs.declared.kind.Kind.{Kind}
 use Rattle.lexer.specs.declared.kind.Value.{Value}
 use Rattle.lexer.specs.declared.kind.Value.TheVariants.{Integer, Float, Nothing}
-use Rattle.lexer.specs.declared.layout_call.LayoutAnswer.{LayoutAnswer}
 use Rattle.lexer.specs.declared.layout_call.LayoutKind.TheVariants.{Blanks, SingleLine, Bracketed}
-use Rattle.lexer.specs.declared.token.Answer.{Answer}
 use Rattle.lexer.specs.declared.token.Source.TheVariants.{File}
+use Rattle.lexer.specs.declared.layout_call.LayoutRead.{LayoutRead}
+use Rattle.std.specs.declared.result.Result.TheVariants.{Ok, Err}
 
 -- the bytes of a text
 abbrev bytes : String → List ℕ
@@ -48,10 +48,10 @@ from n s = next_token File (bytes s) (at n)
 
 -- a token from one offset to another, with the offset at which the layout before it began; or a refusal and its offset at the start of the text
 abbrev read : ℕ → ℕ → ℕ → Kind → Value → Answer
-read a n e k v = Answer.Read (token_since a (token k v n)) (at e)
+read a n e k v = token_read (token_since a (token k v n)) (at e)
 
 abbrev refused : Refusal → ℕ → Answer
-refused r n = Answer.Refused (fault r n) (at 0)
+refused r n = refuse (fault r n) (at 0)
 
 -- what the definition answers, and what 01 says
 abbrev pub table : List (Answer × Answer)
@@ -86,13 +86,13 @@ layout n s = next_layout (bytes s) (at n)
 -- what the definition answers, and what 6.4.1 says
 abbrev pub layouts : List (LayoutAnswer × LayoutAnswer)
 layouts =
-    (layout 0 "  a", LayoutAnswer.Read Blanks 0 (at 2))
-    ∷ (layout 0 "% c", LayoutAnswer.Read SingleLine 0 (at 3))
-    ∷ (layout 0 "/* /* */ a. */", LayoutAnswer.Read Bracketed 0 (at 8))
-    ∷ (layout 8 "/* /* */ a. */", LayoutAnswer.Read Blanks 8 (at 9))
-    ∷ (layout 9 "/* /* */ a. */", LayoutAnswer.Absent (at 9))
-    ∷ (layout 1 " /*/", LayoutAnswer.Refused (fault UnclosedComment 1) (at 1))
-    ∷ (layout 0 "/", LayoutAnswer.Refused (fault EndOfText 1) (at 0))
+    (layout 0 "  a", Ok (LayoutRead.Text Blanks 0 (at 2)))
+    ∷ (layout 0 "% c", Ok (LayoutRead.Text SingleLine 0 (at 3)))
+    ∷ (layout 0 "/* /* */ a. */", Ok (LayoutRead.Text Bracketed 0 (at 8)))
+    ∷ (layout 8 "/* /* */ a. */", Ok (LayoutRead.Text Blanks 8 (at 9)))
+    ∷ (layout 9 "/* /* */ a. */", Ok (LayoutRead.Absent (at 9)))
+    ∷ (layout 1 " /*/", refuse (fault UnclosedComment 1) (at 1))
+    ∷ (layout 0 "/", refuse (fault EndOfText 1) (at 0))
     ∷ []
 
 pub layout_specimens : map (λ (r : LayoutAnswer × LayoutAnswer). r.0) layouts ≡ map (λ (r : LayoutAnswer × LayoutAnswer). r.1) layouts

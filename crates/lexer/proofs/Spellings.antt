@@ -9,12 +9,12 @@ use Rattle.lexer.specs.Chars.{class_of, is, quote_char, single_quote}
 use Rattle.lexer.specs.Token.{plain_token, Text, source, decoded, lexeme, text_of, read_lexeme}
 use Rattle.lexer.specs.declared.kind.Kind.{Kind}
 use Rattle.lexer.specs.declared.kind.Kind.TheVariants.{Name}
-use Rattle.lexer.specs.declared.kind.Plain.{Plain}
-use Rattle.lexer.specs.declared.kind.Plain.TheVariants.{Whole, Refused}
 use Rattle.lexer.specs.declared.token.Token.{Token}
 use Rattle.lexer.specs.declared.token.Source.{Source}
 use Rattle.lexer.proofs.EachToken.{Each, read_each}
 use Rattle.lexer.proofs.Looks.{Seen}
+use Rattle.lexer.specs.Name.{PlainToken}
+use Rattle.std.specs.declared.result.Result.TheVariants.{Ok, Err}
 
 -- the text of a name that begins with the byte b
 pub data NameText (b : ℕ) : Text → Type 0 where
@@ -30,9 +30,9 @@ unfolding class_of
 not_quote x f g = let z : ◌≡◌ {A = ℕ} 0 1 = cc in omega arith
 
 module _ (s : List ℕ) where
-  plain_spelt : (at x : ℕ) → Seen s at x → (x ≡ single_quote → ⊥) → (p : Plain) → Each (λ k v e. Spelt s k at (text_of k)) p
-  plain_spelt at x l n (Whole k v e) = λ g. subst⁻¹ (λ (j : Kind). NameText (get_or s at 0) (text_of j)) g (unquoted (λ q. n (sym l.it ∙ q)))
-  plain_spelt at x l n (Refused w) = tt
+  plain_spelt : (at x : ℕ) → Seen s at x → (x ≡ single_quote → ⊥) → (p : PlainToken) → Each (λ k v e. Spelt s k at (text_of k)) p
+  plain_spelt at x l n (Ok p) = λ g. subst⁻¹ (λ (j : Kind). NameText (get_or s at 0) (text_of j)) g (unquoted (λ q. n (sym l.it ∙ q)))
+  plain_spelt at x l n (Err w) = tt
 
   pub name_text : (origin : Source) (from : ℕ) (t : Token) (e : ℕ) (x : Text) → read_lexeme origin s from ≡ lexeme t e x → t.kind ≡ Name → NameText (get_or s t.start 0) x
   name_text origin from t e x f =

@@ -13,19 +13,21 @@ use Rattle.lexer.specs.Chars.{class_of, single_quote}
 use Rattle.lexer.specs.Cursor.{longest, part, move_to, valid}
 use Rattle.lexer.specs.Look.{lookahead}
 use Rattle.lexer.specs.Quoted.{decode}
-use Rattle.lexer.specs.Text.{Outcome, leaves, text_told, next_token_text, counted_text, quoted_from, quoted_text, part_of, fitted, shown}
-use Rattle.lexer.specs.Token.{source, decoded, none, Lexeme, lexeme, refused, read_lexeme, answered, not_valid, next_token}
-use Rattle.lexer.specs.declared.chars.Look.{Look}
+use Rattle.lexer.specs.Text.{Outcome, leaves, text_told, next_token_text, counted_text, quoted_from, quoted_text, part_of, fitted, shown, text_read}
+use Rattle.lexer.specs.Token.{source, decoded, none, Lexeme, lexeme, refused, read_lexeme, answered, not_valid, next_token, token_read}
+use Rattle.std.specs.declared.result.Result.TheVariants.{Ok, Err}
 use Rattle.lexer.specs.declared.refusal.Fault.{Fault}
 use Rattle.lexer.specs.declared.cursor.Cursor.{Cursor}
 use Rattle.lexer.specs.declared.token.Token.{Token}
-use Rattle.lexer.specs.declared.token.Answer.{Answer}
 use Rattle.lexer.specs.declared.text.Part.{Part}
-use Rattle.lexer.specs.declared.text.TextAnswer.TheVariants.{Read, Refused}
 use Rattle.lexer.specs.declared.token.Source.TheVariants.{File}
+use Rattle.lexer.proofs.Parts.{refuse_parts, text_parts}
 use Rattle.lexer.proofs.Cursors.{is-valid}
 use Rattle.lexer.proofs.Looks.{byte_look}
 use Rattle.lexer.proofs.Promises.{lexeme_ends}
+use Rattle.lexer.specs.declared.refusal.Refusal.TheVariants.{NoText}
+use Rattle.lexer.specs.declared.text.TextRead.{TextRead}
+use Rattle.lexer.specs.Refusal.{fault, refuse}
 
 -- the bytes of a token's text
 abbrev pub text_bytes : List ℕ → Lexeme → List ℕ
@@ -52,7 +54,7 @@ OnlyPart d x (Part.Scratch a e) = (length x ≡ length d) × ((a ≡ 0) × (drop
 
 -- the token t at the cursor c, with the cursor behind it, and its text
 pub record Told (s : List ℕ) (c : Cursor) (d : List ℕ) (t : Token) (next : Cursor) (p : Part) (x : List ℕ) : Type 0 where
-  pub token : next_token File s c ≡ Answer.Read t next
+  pub token : next_token File s c ≡ token_read t next
   pub text : Shows s x p (read_lexeme File s c.offset)
   pub kept : OnlyPart d x p
 
@@ -83,61 +85,65 @@ module _ (d bs : List ℕ) (h : length bs ≤ length d) where
 -- ---- the call
 module _ (s : List ℕ) (c : Cursor) (d : List ℕ) where
   called : Bool → Lexeme → Outcome
-  called b l = cond b (text_told s c d l) (leaves (Refused not_valid c) d)
+  called b l = cond b (text_told s c d l) (leaves (refuse not_valid c) d)
 
   record Tells (b : Bool) (l : Lexeme) (t : Token) (next : Cursor) (p : Part) (x : List ℕ) : Type 0 where
-    token : cond b (answered s c l) (Answer.Refused not_valid c) ≡ Answer.Read t next
+    token : cond b (answered s c l) (refuse not_valid c) ≡ token_read t next
     text : Shows s x p l
     kept : OnlyPart d x p
 
   -- a quoted item, where there is room or not
-  decoded_tells : (b : Bool) (u : Token) (e : ℕ) (bs : List ℕ) (w : Fault) → leb (length bs) (length d) ≡ b → (t : Token) (next : Cursor) (p : Part) (x : List ℕ) → cond b (leaves (Read u (move_to s c e) (Part.Scratch 0 (length bs))) (sets d 0 bs)) (leaves (Refused w c) d) ≡ leaves (Read t next p) x → Tells true (lexeme u e (decoded bs)) t next p x
+  decoded_tells : (b : Bool) (u : Token) (e : ℕ) (bs : List ℕ) (w : Fault) → leb (length bs) (length d) ≡ b → (t : Token) (next : Cursor) (p : Part) (x : List ℕ) → cond b (leaves (text_read u (move_to s c e) (Part.Scratch 0 (length bs))) (sets d 0 bs)) (leaves (refuse w c) d) ≡ leaves (text_read t next p) x → Tells true (lexeme u e (decoded bs)) t next p x
   unfolding answered shown
   decoded_tells false u e bs w f t next p x h = let z : ◌≡◌ {A = ℕ} 0 1 = cc in absurd (omega arith)
   decoded_tells true u e bs w f t next p x h =
       let r = leb-true (length bs) (length d) f in
-      let q : Part.Scratch 0 (length bs) ≡ p = cc in
+      let same : text_read u (move_to s c e) (Part.Scratch 0 (length bs)) ≡ text_read t next p = cc in
+      let parts = text_parts same in
+      let q : Part.Scratch 0 (length bs) ≡ p = parts.2 in
       let y : sets d 0 bs ≡ x = cc in
-      record { token = cc; text = λ a b _ g. rw (sym q) (written-part d bs r a b (g ∙ sym y)); kept = rw (sym q, sym y) (written_only d bs r) }
+      record { token = cc (parts.0, parts.1); text = λ a b _ g. rw (sym q) (written-part d bs r a b (g ∙ sym y)); kept = rw (sym q, sym y) (written_only d bs r) }
 
-  tells : (b : Bool) (l : Lexeme) → valid (length s) c ≡ b → read_lexeme File s c.offset ≡ l → (t : Token) (next : Cursor) (p : Part) (x : List ℕ) → called b l ≡ leaves (Read t next p) x → Tells b l t next p x
+  tells : (b : Bool) (l : Lexeme) → valid (length s) c ≡ b → read_lexeme File s c.offset ≡ l → (t : Token) (next : Cursor) (p : Part) (x : List ℕ) → called b l ≡ leaves (text_read t next p) x → Tells b l t next p x
   unfolding called text_told answered shown
   tells false l f g t next p x h = let z : ◌≡◌ {A = ℕ} 0 1 = cc in absurd (omega arith)
   tells true (refused w) f g t next p x h = let z : ◌≡◌ {A = ℕ} 0 1 = cc in absurd (omega arith)
   tells true (lexeme u e none) f g t next p x h = let z : ◌≡◌ {A = ℕ} 0 1 = cc in absurd (omega arith)
   tells true (lexeme u e (decoded bs)) f g t next p x h = decoded_tells (leb (length bs) (length d)) u e bs _ refl t next p x h
   tells true (lexeme u e source) f g t next p x h =
-      let q : Part.Source u.start e ≡ p = cc in
+      let same : text_read u (move_to s c e) (Part.Source u.start e) ≡ text_read t next p = cc in
+      let parts = text_parts same in
+      let q : Part.Source u.start e ≡ p = parts.2 in
       let y : d ≡ x = cc in
       let b = lexeme_ends File s c.offset u e source (is-valid (length s) c f).offset g in
-      record { token = cc; text = λ a _ g _. rw (sym q) (source_part a s u.start e (omega (arith, b.ahead)) b.inside g); kept = rw (sym q) (sym y) }
+      record { token = cc (parts.0, parts.1); text = λ a _ g _. rw (sym q) (source_part a s u.start e (omega (arith, b.ahead)) b.inside g); kept = rw (sym q) (sym y) }
 
-  pub text-told : (t : Token) (next : Cursor) (p : Part) (x : List ℕ) → next_token_text s c d ≡ leaves (Read t next p) x → Told s c d t next p x
+  pub text-told : (t : Token) (next : Cursor) (p : Part) (x : List ℕ) → next_token_text s c d ≡ leaves (text_read t next p) x → Told s c d t next p x
   unfolding called
   text-told t next p x h =
       let r = tells (valid (length s) c) (read_lexeme File s c.offset) refl refl t next p x h in
       record { token = r.token; text = r.text; kept = r.kept }
 
   -- ---- a refusal leaves cursor and scratch as they were
-  no-room : (b : Bool) (u : Token) (m : Cursor) (q : Part) (v w : Fault) (e : Cursor) (x y : List ℕ) → cond b (leaves (Read u m q) y) (leaves (Refused v c) d) ≡ leaves (Refused w e) x → (e ≡ c) × (x ≡ d)
+  no-room : (b : Bool) (u : Token) (m : Cursor) (q : Part) (v w : Fault) (e : Cursor) (x y : List ℕ) → cond b (leaves (text_read u m q) y) (leaves (refuse v c) d) ≡ leaves (refuse w e) x → (e ≡ c) × (x ≡ d)
   no-room true u m q v w e x y h = let z : ◌≡◌ {A = ℕ} 0 1 = cc in absurd (omega arith)
-  no-room false u m q v w e x y h = (cc, cc)
+  no-room false u m q v w e x y h = let r : refuse {T = TextRead} v c ≡ refuse w e = cc in (sym (refuse_parts r).1, cc)
 
-  left : (w : Fault) (e : Cursor) (x : List ℕ) (b : Bool) (l : Lexeme) → called b l ≡ leaves (Refused w e) x → (e ≡ c) × (x ≡ d)
+  left : (w : Fault) (e : Cursor) (x : List ℕ) (b : Bool) (l : Lexeme) → called b l ≡ leaves (refuse w e) x → (e ≡ c) × (x ≡ d)
   unfolding called text_told
-  left w e x false l h = (cc, cc)
-  left w e x true (refused v) h = (cc, cc)
+  left w e x false l h = let r : refuse {T = TextRead} not_valid c ≡ refuse w e = cc in (sym (refuse_parts r).1, cc)
+  left w e x true (refused v) h = let r : refuse {T = TextRead} v c ≡ refuse w e = cc in (sym (refuse_parts r).1, cc)
   left w e x true (lexeme u n source) h = let z : ◌≡◌ {A = ℕ} 0 1 = cc in absurd (omega arith)
-  left w e x true (lexeme u n none) h = (cc, cc)
+  left w e x true (lexeme u n none) h = let r : refuse {T = TextRead} (fault NoText u.start) c ≡ refuse w e = cc in (sym (refuse_parts r).1, cc)
   left w e x true (lexeme u n (decoded bs)) h = no-room (leb (length bs) (length d)) u (move_to s c n) _ _ w e x _ h
 
-  pub nothing_left : (w : Fault) (e : Cursor) (x : List ℕ) → next_token_text s c d ≡ leaves (Refused w e) x → (e ≡ c) × (x ≡ d)
+  pub nothing_left : (w : Fault) (e : Cursor) (x : List ℕ) → next_token_text s c d ≡ leaves (refuse w e) x → (e ≡ c) × (x ≡ d)
   unfolding called
   nothing_left w e x h = left w e x (valid (length s) c) (read_lexeme File s c.offset) h
 
 -- ---- the quoted-text call
 module _ (s : List ℕ) (at : ℕ) (short : length s ≤ longest) (inside : at < length s) (quote : get_or s at 0 ≡ single_quote) where
-  quote_look : lookahead s at ≡ Look.Byte single_quote
+  quote_look : lookahead s at ≡ Ok single_quote
   unfolding class_of
   quote_look = byte_look s at single_quote inside quote refl
 

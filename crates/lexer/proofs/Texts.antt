@@ -8,20 +8,21 @@ use Rattle.lexer.specs.Chars.{single_quote, double_quote}
 use Rattle.lexer.specs.Cursor.{start_cursor, move_to}
 use Rattle.lexer.specs.Quoted.{Quoted, decode}
 use Rattle.lexer.specs.Text.{Reads}
-use Rattle.lexer.specs.Token.{plain_token, Text, source, decoded, none, Lexeme, lexeme, refused, text_of, read_lexeme, kept, spelled_to, found}
+use Rattle.lexer.specs.Token.{plain_token, Text, source, decoded, none, Lexeme, lexeme, refused, text_of, read_lexeme, kept, spelled_to, found, FoundToken}
 use Rattle.lexer.specs.declared.cursor.Cursor.{Cursor}
 use Rattle.lexer.specs.declared.kind.Kind.{Kind}
 use Rattle.lexer.specs.declared.kind.Kind.TheVariants.{Name, Variable, String, Number, Open, OpenCT, Close, OpenList, CloseList, OpenCurly, CloseCurly, HeadTailSeparator, DoubleBar, Comma, End}
-use Rattle.lexer.specs.declared.kind.Plain.{Plain}
-use Rattle.lexer.specs.declared.kind.Plain.TheVariants.{Whole, Refused}
 use Rattle.lexer.specs.declared.token.Token.{Token}
 use Rattle.lexer.specs.declared.token.Spelling.{Spelling}
-use Rattle.lexer.specs.declared.token.Found.{Found}
 use Rattle.lexer.specs.declared.token.Source.{Source}
 use Rattle.lexer.specs.declared.token.Source.TheVariants.{File}
+use Rattle.lexer.proofs.Parts.{found_parts}
 use Rattle.lexer.proofs.Cursors.{move_offset}
 use Rattle.lexer.proofs.EachToken.{Each, OfQuoted, read_each}
 use Rattle.lexer.proofs.Promises.{lexeme_ends}
+use Rattle.lexer.specs.Name.{PlainToken}
+use Rattle.lexer.specs.Name.{whole_token}
+use Rattle.std.specs.declared.result.Result.TheVariants.{Ok, Err}
 
 -- ---- a token whose text is decoded begins with the quote by which it is decoded
 
@@ -55,9 +56,9 @@ module _ (s : List ℕ) where
   kind_decodes Comma at e = tt
   kind_decodes End at e = tt
 
-  plain_decodes : (at : ℕ) (p : Plain) → Each (λ k v e. Decodes s at e (text_of k)) p
-  plain_decodes at (Whole k v e) = kind_decodes k at e
-  plain_decodes at (Refused w) = tt
+  plain_decodes : (at : ℕ) (p : PlainToken) → Each (λ k v e. Decodes s at e (text_of k)) p
+  plain_decodes at (Ok p) = kind_decodes p.kind at p.end
+  plain_decodes at (Err w) = tt
 
   -- a quote, and what follows it
   decodes_quote : (k : Kind) (q : ℕ) → OfQuoted (λ k v at e x. Decodes s at e x) s k q
@@ -88,9 +89,9 @@ spelt_kept (decoded bs) = record { bytes = bs; it = refl; count = refl }
 spelt_kept none = refl
 
 -- the cursor behind what was found, if it is a token
-abbrev behind : Found → Cursor
-behind (Found.Whole o t l x k) = record { offset = o; line = l; column = k }
-behind (Found.Refused w) = start_cursor
+abbrev pub behind : FoundToken → Cursor
+behind (Ok p) = record { offset = p.offset; line = p.line; column = p.column }
+behind (Err w) = start_cursor
 
 -- where the token ends, and its text
 pub record Kept (s : List ℕ) (c : Cursor) (t : Token) (spelling : Spelling) (next : Cursor) : Type 0 where
@@ -115,7 +116,7 @@ module _ (s : List ℕ) (c : Cursor) (t : Token) (next : Cursor) where
   kept_of x r = go (read_lexeme File s c.offset) refl r.read
     where
       go : (l : Lexeme) → read_lexeme File s c.offset ≡ l → found s c l ≡ spelled_to t x next → Kept s c t x next
-      go (lexeme u e y) g h = let k : kept y ≡ x = cc in record { end = e; text = y; reads = cc; spelt = rw k at (spelt_kept y); moved = ap behind (sym h) }
+      go (lexeme u e y) g h = let p = found_parts h in let k : kept y ≡ x = p.1 in record { end = e; text = y; reads = cc (p.0); spelt = rw k at (spelt_kept y); moved = ap behind (sym h) }
       go (refused w) g h = let z : ◌≡◌ {A = ℕ} 0 1 = cc in absurd (omega arith)
 
   -- its own bytes run to where the next cursor stands

@@ -14,35 +14,29 @@ use Rattle.lexer.specs.Cursor.{longest, start_cursor, walk, part, move_to, valid
 use Rattle.lexer.specs.Digits.{largest_magnitude}
 use Rattle.lexer.specs.Float.{Limits, Scale, scale, over, under, float_value}
 use Rattle.lexer.specs.Layout.{comment_text, layout_end, moved}
-use Rattle.lexer.specs.LayoutCall.{next_layout}
+use Rattle.lexer.specs.LayoutCall.{next_layout, LayoutAnswer}
 use Rattle.lexer.specs.Look.{peek, lookahead}
 use Rattle.lexer.specs.Nearest.{Nearest}
 use Rattle.lexer.specs.Number.{number_token}
 use Rattle.lexer.specs.Quoted.{escape, quoted_item, Quoted, decode}
-use Rattle.lexer.specs.Refusal.{number_of, fault}
-use Rattle.lexer.specs.Text.{leaves, next_token_text, seen, shown, counts, counted_text, quoted_text}
-use Rattle.lexer.specs.Token.{end_token, valued, numbered, Text, source, decoded, lexeme, refused, is_comma, plain_lexeme, lexeme_since, read_lexeme, answered, next_token}
+use Rattle.lexer.specs.Refusal.{number_of, fault, refuse}
+use Rattle.lexer.specs.Text.{leaves, next_token_text, seen, shown, counts, counted_text, quoted_text, TextAnswer, QuotedAnswer, text_read}
+use Rattle.lexer.specs.Token.{end_token, valued, numbered, Text, source, decoded, lexeme, refused, is_comma, plain_lexeme, lexeme_since, read_lexeme, answered, next_token, token_read, Answer}
 use Rattle.lexer.specs.declared.refusal.Fault.{Fault}
 use Rattle.lexer.specs.declared.refusal.Refusal.{Refusal}
 use Rattle.lexer.specs.declared.refusal.Refusal.TheVariants.{EndOfText, UnclosedComment, BadQuoted, ForeignByte}
-use Rattle.lexer.specs.declared.chars.Look.{Look}
+use Rattle.std.specs.declared.result.Result.TheVariants.{Ok, Err}
 use Rattle.lexer.specs.declared.chars.Peek.{Peek}
 use Rattle.lexer.specs.declared.cursor.Cursor.{Cursor}
-use Rattle.lexer.specs.declared.cursor.Scan.{Scan}
-use Rattle.lexer.specs.declared.float.Floated.{Floated}
+use Rattle.std.specs.declared.option.Option.TheVariants.{Some}
 use Rattle.lexer.specs.declared.kind.Kind.TheVariants.{Name, End}
-use Rattle.lexer.specs.declared.kind.Plain.{Plain}
 use Rattle.lexer.specs.declared.kind.Value.TheVariants.{Integer, Nothing}
-use Rattle.lexer.specs.declared.layout_call.LayoutAnswer.{LayoutAnswer}
 use Rattle.lexer.specs.declared.layout_call.LayoutKind.{LayoutKind}
 use Rattle.lexer.specs.declared.number.Numeral.{Numeral}
 use Rattle.lexer.specs.declared.number.NumberToken.{NumberToken}
 use Rattle.lexer.specs.declared.quoted.Item.{Item}
 use Rattle.lexer.specs.declared.text.Part.{Part}
-use Rattle.lexer.specs.declared.text.QuotedAnswer.{QuotedAnswer}
-use Rattle.lexer.specs.declared.text.TextAnswer.{TextAnswer}
 use Rattle.lexer.specs.declared.token.Token.{Token}
-use Rattle.lexer.specs.declared.token.Answer.{Answer}
 use Rattle.lexer.specs.declared.token.Source.{Source}
 use Rattle.lexer.specs.declared.token.Source.TheVariants.{File, Field}
 use Rattle.lexer.proofs.Calls.{start_passes, Promised, read_promises, refused-here}
@@ -64,10 +58,13 @@ use Rattle.lexer.proofs.Specimens as Specimens
 use Rattle.lexer.proofs.Specimens.{table, specimens, layouts}
 pub use Rattle.lexer.proofs.Spellings.{NameText, quoted, unquoted}
 use Rattle.lexer.proofs.Spellings.{name_text}
+use Rattle.lexer.proofs.Parts as Parts
 use Rattle.lexer.proofs.Steps as Steps
 use Rattle.lexer.proofs.TextCalls.{Told, text-told, nothing_left, quote_decodes}
 use Rattle.lexer.proofs.Texts.{decoded_at}
 use Rattle.lexer.proofs.float.Values.{Exact, value_says, says_value, scale_exact}
+use Rattle.lexer.specs.Name.{whole_token}
+use Rattle.lexer.specs.declared.layout_call.LayoutRead.{LayoutRead}
 
 -- ---- 01: "two permitted outcomes coincide"
 
@@ -108,30 +105,37 @@ valid_coincides n c = coincide (valid n c)
 pub start-valid : (n : ℕ) → n ≤ longest → valid n start_cursor ≡ true
 start-valid = start_passes
 
+-- ---- answers that are equal have equal parts
+pub read_parts : {t u : Token} {c d : Cursor} → token_read t c ≡ token_read u d → (t ≡ u) × (c ≡ d)
+read_parts = Parts.read_parts
+
+pub refuse_parts : {T : Type 0} {w v : Fault} {c d : Cursor} → refuse {T = T} w c ≡ refuse {T = T} v d → (w ≡ v) × (c ≡ d)
+refuse_parts = Parts.refuse_parts
+
 -- ---- what an answer promises whoever reads on from it
 module _ (s : List ℕ) (c : Cursor) where
   -- the text is not too long and the cursor is valid; the token starts at or after the cursor and ends behind its start, within the text, where the new
   -- cursor stands, which is valid and further on
-  pub token_promises : (origin : Source) (t : Token) (next : Cursor) → next_token origin s c ≡ Answer.Read t next → Promised s c t next
+  pub token_promises : (origin : Source) (t : Token) (next : Cursor) → next_token origin s c ≡ token_read t next → Promised s c t next
   token_promises origin = read_promises origin s c
 
   -- 02, request 8: "from a valid cursor that offset is the cursor's"
-  pub token-layout : (origin : Source) (t : Token) (next : Cursor) → next_token origin s c ≡ Answer.Read t next → t.layout ≡ c.offset
+  pub token-layout : (origin : Source) (t : Token) (next : Cursor) → next_token origin s c ≡ token_read t next → t.layout ≡ c.offset
   token-layout origin t next f = (token_promises origin t next f).layout
 
   -- line and column behind a token are those of the bytes walked over from the cursor
-  pub token_walks : (origin : Source) (t : Token) (next : Cursor) → next_token origin s c ≡ Answer.Read t next → next ≡ walk c (part c.offset next.offset s)
+  pub token_walks : (origin : Source) (t : Token) (next : Cursor) → next_token origin s c ≡ token_read t next → next ≡ walk c (part c.offset next.offset s)
   token_walks origin t next f = (token_promises origin t next f).walked
 
   -- the text call reads what the token call reads in a file, the show call hands its text back, and no more of the scratch than that is written
-  pub text_promises : (d : List ℕ) (t : Token) (next : Cursor) (p : Part) (x : List ℕ) → next_token_text s c d ≡ leaves (TextAnswer.Read t next p) x → Told s c d t next p x
+  pub text_promises : (d : List ℕ) (t : Token) (next : Cursor) (p : Part) (x : List ℕ) → next_token_text s c d ≡ leaves (text_read t next p) x → Told s c d t next p x
   text_promises = text-told s c
 
   -- 01: "a refusal returns the caller's cursor"; it leaves the scratch as it was
-  pub token-refused : (origin : Source) (w : Fault) (back : Cursor) → next_token origin s c ≡ Answer.Refused w back → back ≡ c
+  pub token-refused : (origin : Source) (w : Fault) (back : Cursor) → next_token origin s c ≡ refuse w back → back ≡ c
   token-refused origin = refused-here origin s c
 
-  pub text-refused : (d : List ℕ) (w : Fault) (back : Cursor) (x : List ℕ) → next_token_text s c d ≡ leaves (TextAnswer.Refused w back) x → (back ≡ c) × (x ≡ d)
+  pub text-refused : (d : List ℕ) (w : Fault) (back : Cursor) (x : List ℕ) → next_token_text s c d ≡ leaves (refuse w back) x → (back ≡ c) × (x ≡ d)
   text-refused = nothing_left s c
 
 -- ---- 02, request 7: "one call, told whether the text is a file or a field"
@@ -146,8 +150,8 @@ module _ (s : List ℕ) (c : Cursor) where
     field_digit h = sources_alike s c (λ at' y k d. rw (starts_once s c at' y at x k l) h)
 
     -- if it does, a file is refused there, and a field has the number
-    module _ (d : is decimal_digit x ≡ true) (n : Numeral) (e : ℕ) (f : number_token s at ≡ NumberToken.Partial n e) (v : valid (length s) c ≡ true) where
-      pub file_ends : next_token File s c ≡ Answer.Refused (fault EndOfText e) c
+    module _ (d : is decimal_digit x ≡ true) (n : Numeral) (e : ℕ) (f : number_token s at ≡ Ok (NumberToken.Partial n e)) (v : valid (length s) c ≡ true) where
+      pub file_ends : next_token File s c ≡ refuse (fault EndOfText e) c
       unfolding numbered plain_lexeme lexeme_since answered
       file_ends = cc (v, source_reaches s c File at x l d n e f)
 
@@ -159,15 +163,15 @@ module _ (s : List ℕ) (c : Cursor) where
 module _ (s : List ℕ) (c : Cursor) where
   -- a layout text that the layout call gives is, to its last byte, what 6.4.1 calls so (`Is`); it begins at the cursor and is not empty, the new cursor stands
   -- behind it and is valid, and from there layout goes on to where it goes from here
-  pub layout_promises : (k : LayoutKind) (a : ℕ) (next : Cursor) → next_layout s c ≡ LayoutAnswer.Read k a next → LayoutPromised s c k a next
+  pub layout_promises : (k : LayoutKind) (a : ℕ) (next : Cursor) → next_layout s c ≡ Ok (LayoutRead.Text k a next) → LayoutPromised s c k a next
   layout_promises k a next f = rw f at (layout_says s c)
 
   -- where it gives none, layout ends at the cursor
-  pub layout_absent : (back : Cursor) → next_layout s c ≡ LayoutAnswer.Absent back → LayoutAbsent s c back
+  pub layout_absent : (back : Cursor) → next_layout s c ≡ Ok (LayoutRead.Absent back) → LayoutAbsent s c back
   layout_absent back f = rw f at (layout_says s c)
 
   -- where it is refused, so is the token call, by the same number at the same offset, and the caller's cursor comes back
-  pub layout-refused : (w : Fault) (back : Cursor) → next_layout s c ≡ LayoutAnswer.Refused w back → LayoutRefused s c w back
+  pub layout-refused : (w : Fault) (back : Cursor) → next_layout s c ≡ refuse w back → LayoutRefused s c w back
   layout-refused w back f = rw f at (layout_says s c)
 
   -- text after text it comes from every valid cursor to where 6.4.1's sequence of layout texts ends, or to its refusal
@@ -175,7 +179,7 @@ module _ (s : List ℕ) (c : Cursor) where
   layout-laid_out = laid_out s c
 
   -- before a token: from the cursor, which is where the layout before it began (`token-layout`), to where the token starts
-  pub token-laid_out : (origin : Source) (t : Token) (next : Cursor) → next_token origin s c ≡ Answer.Read t next → LaidBefore s c t
+  pub token-laid_out : (origin : Source) (t : Token) (next : Cursor) → next_token origin s c ≡ token_read t next → LaidBefore s c t
   token-laid_out = laid_before s c
 
 -- ---- what the clause reader relies on, besides `token_promises`
@@ -224,18 +228,18 @@ part_none = Steps.part_none
 -- ---- 01: "the comment ends at the first star that a slash follows; comments do not nest"
 module _ (s : List ℕ) (o : ℕ) where
   -- the comment whose slash is at o ends at e: then the first such star behind its opening mark is at e - 2
-  pub comment_ends_first : (e : ℕ) → comment_text s o ≡ Scan.Stop e → First s (o + 2) (e - 2)
+  pub comment_ends_first : (e : ℕ) → comment_text s o ≡ Ok e → First s (o + 2) (e - 2)
   comment_ends_first = first_mark s o
 
   -- and the other way round
-  pub first_ends_comment : (i : ℕ) → First s (o + 2) i → comment_text s o ≡ Scan.Stop (i + 2)
+  pub first_ends_comment : (i : ℕ) → First s (o + 2) i → comment_text s o ≡ Ok (i + 2)
   first_ends_comment = mark_first s o
 
   -- without such a star it is refusal 2, with a foreign byte before it refusal 5
-  pub comment_unclosed : o + 2 ≤ length s → Clear s (o + 2) (length s) → comment_text s o ≡ Scan.Refused (fault UnclosedComment o)
+  pub comment_unclosed : o + 2 ≤ length s → Clear s (o + 2) (length s) → comment_text s o ≡ Err (fault UnclosedComment o)
   comment_unclosed = clear_end s o
 
-  pub comment_foreign : (i : ℕ) → o + 2 ≤ i → i < length s → Clear s (o + 2) i → is foreign_byte (get_or s i 0) ≡ true → comment_text s o ≡ Scan.Refused (fault ForeignByte i)
+  pub comment_foreign : (i : ℕ) → o + 2 ≤ i → i < length s → Clear s (o + 2) i → is foreign_byte (get_or s i 0) ≡ true → comment_text s o ≡ Err (fault ForeignByte i)
   comment_foreign = clear_foreign s o
 
 -- ---- 02, request 1: "byte 13 becomes layout"
@@ -243,7 +247,7 @@ module _ (s : List ℕ) (o : ℕ) where
 -- in a file and in a field a carriage return is as a blank, but in a quoted item it is refusal 4
 module _ (origin : Source) (s : List ℕ) where
   -- with a blank for each carriage return the answer is the same, token, value, span, line and column or refusal, unless it is refusal 4
-  pub returns_are_blanks : (c : Cursor) → (next_token origin (blanked s) c ≡ next_token origin s c) ⊎ ((o : ℕ) × (next_token origin s c ≡ Answer.Refused (fault BadQuoted o) c))
+  pub returns_are_blanks : (c : Cursor) → (next_token origin (blanked s) c ≡ next_token origin s c) ⊎ ((o : ℕ) × (next_token origin s c ≡ refuse (fault BadQuoted o) c))
   returns_are_blanks = answer-alike s origin
 
   -- and so is what is read from an offset on, with its text
@@ -260,14 +264,14 @@ returns_move_alike = move_same
 
 module _ (s : List ℕ) (at : ℕ) where
   -- "a dot before it is an end mark that leaves it unread": the dot at `at`
-  pub return_left : peek s (at + 1) ≡ Peek.Byte carriage_return → end_token s at ≡ Plain.Whole End Nothing (at + 1)
+  pub return_left : peek s (at + 1) ≡ Peek.Byte carriage_return → end_token s at ≡ whole_token End Nothing (at + 1)
   return_left = mark_before s at
 
   -- "inside a quoted item it gets 4, and after a backslash it is no line continuation"
-  pub return_in_quoted : (q token : ℕ) → lookahead s at ≡ Look.Byte carriage_return → quoted_item q token s at ≡ Item.Refused (fault BadQuoted token)
+  pub return_in_quoted : (q token : ℕ) → lookahead s at ≡ Ok carriage_return → quoted_item q token s at ≡ Err (fault BadQuoted token)
   return_in_quoted q token e = raw_return s at token e q
 
-  pub return_continues_nothing : (token : ℕ) → lookahead s at ≡ Look.Byte carriage_return → escape token s at ≡ Item.Refused (fault BadQuoted token)
+  pub return_continues_nothing : (token : ℕ) → lookahead s at ≡ Ok carriage_return → escape token s at ≡ Err (fault BadQuoted token)
   return_continues_nothing = escaped_return s at
 
   -- "5 is no longer given for 13"
@@ -282,10 +286,10 @@ module _ (m : ℕ) (minus : Bool) (x f : ℕ) where
   e = scale minus x f
 
   -- it has the value v just where m and e are within the limits and v is nearest; no operation on floats is named in `Nearest`
-  pub float-is_nearest : (v : Float) → float_value m minus x f ≡ Floated.Value v → Limits m e × Nearest v (over m e) (under e)
+  pub float-is_nearest : (v : Float) → float_value m minus x f ≡ Some v → Limits m e × Nearest v (over m e) (under e)
   float-is_nearest = value_says m e
 
-  pub nearest-is_float : (v : Float) → Limits m e → Nearest v (over m e) (under e) → float_value m minus x f ≡ Floated.Value v
+  pub nearest-is_float : (v : Float) → Limits m e → Nearest v (over m e) (under e) → float_value m minus x f ≡ Some v
   nearest-is_float = says_value m e
 
   -- over / under is m times ten to the x, or by it after a minus, by ten to the f
@@ -301,7 +305,7 @@ refusals_apart = number_once
 
 -- its column "offset": where the token call points, by the refusal
 module _ (s : List ℕ) (c : Cursor) where
-  pub token_faults : (origin : Source) (w : Fault) (back : Cursor) → next_token origin s c ≡ Answer.Refused w back → Placed s c w
+  pub token_faults : (origin : Source) (w : Fault) (back : Cursor) → next_token origin s c ≡ refuse w back → Placed s c w
   token_faults = refusal_placed s c
 
   -- that is at most the text's length

@@ -8,7 +8,7 @@ use borrow.Author.Tests.{le-ltb}
 use lib.ListN.{length}
 use Rattle.lexer.specs.Cursor.{longest}
 use Rattle.lexer.specs.Digits.{beyond}
-use Rattle.lexer.specs.Number.{number_token, held_numeral, held_number}
+use Rattle.lexer.specs.Number.{number_token, held_numeral, held_number, NumberRead}
 use Rattle.lexer.specs.Token.{floated, valued, numbered, sourced, AtDigit}
 use Rattle.lexer.specs.declared.number.Numeral.{Numeral}
 use Rattle.lexer.specs.declared.number.NumberToken.{NumberToken}
@@ -18,6 +18,7 @@ use Rattle.lexer.proofs.Looks.{look_byte}
 use Rattle.lexer.proofs.Numbers.{fraction_of, EndsOf, number_ends}
 use Rattle.lexer.proofs.Sources.{sourced_ends}
 use Rattle.lexer.proofs.float.Capped.{float_capped}
+use Rattle.std.specs.declared.result.Result.TheVariants.{Ok, Err}
 
 module _ (at e : ℕ) where
   integer_held : (n : ℕ) → valued at e (Numeral.Integer (min n beyond)) ≡ valued at e (Numeral.Integer n)
@@ -35,22 +36,22 @@ module _ (at e : ℕ) where
   value-held (Numeral.Integer n) h = integer_held n
   value-held (Numeral.Float m sign x f) h = ap (floated at e) (float_capped m sign x f h)
 
-number-held : (s : List ℕ) (at : ℕ) (t : NumberToken) → length s ≤ longest → EndsOf s at t → numbered at (held_number t) ≡ numbered at t
+number-held : (s : List ℕ) (at : ℕ) (t : NumberRead) → length s ≤ longest → EndsOf s at t → numbered at (held_number t) ≡ numbered at t
 unfolding numbered held_number
-number-held s at (NumberToken.Whole n e) h p = value-held at e n (omega (arith, p.few))
-number-held s at (NumberToken.Partial n e) h p = refl
-number-held s at (NumberToken.Refused w) h p = refl
+number-held s at (Ok (NumberToken.Whole n e)) h p = value-held at e n (omega (arith, p.few))
+number-held s at (Ok (NumberToken.Partial n e)) h p = refl
+number-held s at (Err w) h p = refl
 
-held-sourced : (origin : Source) (t : NumberToken) → sourced origin (held_number t) ≡ held_number (sourced origin t)
+held-sourced : (origin : Source) (t : NumberRead) → sourced origin (held_number t) ≡ held_number (sourced origin t)
 unfolding held_number
 held-sourced File t = refl
-held-sourced Field (NumberToken.Whole n e) = refl
-held-sourced Field (NumberToken.Partial n e) = refl
-held-sourced Field (NumberToken.Refused w) = refl
+held-sourced Field (Ok (NumberToken.Whole n e)) = refl
+held-sourced Field (Ok (NumberToken.Partial n e)) = refl
+held-sourced Field (Err w) = refl
 
 -- at a digit
-pub number-value : (origin : Source) (s : List ℕ) (at : ℕ) (r : NumberToken) → AtDigit s at → r ≡ held_number (number_token s at) → numbered at (sourced origin r) ≡ numbered at (sourced origin (number_token s at))
+pub number-value : (origin : Source) (s : List ℕ) (at : ℕ) (r : NumberRead) → AtDigit s at → r ≡ held_number (number_token s at) → numbered at (sourced origin r) ≡ numbered at (sourced origin (number_token s at))
 number-value origin s at r d e =
     let p = number_ends s at d.digit (look_byte s at d.digit d.at_digit.there) d.decimal in
-    ap (λ (n : NumberToken). numbered at (sourced origin n)) e ∙ ap (numbered at) (held-sourced origin (number_token s at))
+    ap (λ (n : NumberRead). numbered at (sourced origin n)) e ∙ ap (numbered at) (held-sourced origin (number_token s at))
     ∙ number-held s at (sourced origin (number_token s at)) d.at_digit.short (sourced_ends s at origin (number_token s at) p)

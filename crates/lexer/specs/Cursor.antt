@@ -1,7 +1,16 @@
 -- Cursors, and how a text moves them: 01, "Bytes, cursor, domain". Definitions only.
-use Rattle.std.specs.Prelude.{ℕ, ◌+◌, ◌-◌, ◌<◌, ◌≤◌, Bool, cond, ◌&&◌, List, [], ◌∷◌, leb, eqb, take, drop}
+use Rattle.std.specs.Prelude.{ℕ, ◌+◌, ◌-◌, ◌<◌, ◌≤◌, Bool, cond, ◌&&◌, List, [], ◌∷◌, leb, eqb, take, drop, Result}
 use Rattle.lexer.specs.Chars.{newline}
 use Rattle.lexer.specs.declared.cursor.Cursor.{Cursor}
+use Rattle.lexer.specs.declared.refusal.Fault.{Fault}
+
+-- where a scan stops, as an offset; or why it is refused
+abbrev pub Scan : Type 0
+Scan = Result ℕ Fault
+
+-- the same, as a cursor
+abbrev pub Moved : Type 0
+Moved = Result Cursor Fault
 
 -- 01: a text has at most 65,535 bytes
 abbrev pub longest : ℕ

@@ -1,10 +1,13 @@
 -- Document 01, "Tokens": the value of a float token. Definitions only.
-use Rattle.std.specs.Prelude.{ℕ, ◌+◌, ◌-◌, ◌*◌, ◌^◌, ◌≤◌, ◌≡◌, Bool, true, false, cond, leb, Float}
+use Rattle.std.specs.Prelude.{ℕ, ◌+◌, ◌-◌, ◌*◌, ◌^◌, ◌≤◌, ◌≡◌, Bool, true, false, cond, leb, Float, Option}
 use Rattle.std.specs.Float.Ieee.{round}
 use Rattle.std.specs.Float.{binary64}
 use Rattle.lexer.specs.Nearest.{Nearest}
-use Rattle.lexer.specs.declared.float.Floated.{Floated}
-use Rattle.lexer.specs.declared.float.Floated.TheVariants.{Value, Beyond}
+use Rattle.std.specs.declared.option.Option.TheVariants.{Some, None}
+
+-- a value, or none where it is out of limit
+abbrev pub Floated : Type 0
+Floated = Option Float
 
 -- the largest m: 2 ^ 53
 abbrev pub largest_digits : ℕ
@@ -51,7 +54,7 @@ pub record Scaled (m : ℕ) (s : Scale) (r : Float) : Type 0 where
 
 -- 01: a float within the limit has its value, any other is out of limit
 unfoldable pub within_limits : ℕ → Scale → Floated
-within_limits m s = cond (leb m largest_digits) (cond (leb s.tens largest_tens) (Value (value m s)) Beyond) Beyond
+within_limits m s = cond (leb m largest_digits) (cond (leb s.tens largest_tens) (Some (value m s)) None) None
 
 -- 01: the value of a float token with digits m, f of them after the point, and the exponent x or -x, 0 where it has none
 abbrev pub float_value : ℕ → Bool → ℕ → ℕ → Floated

@@ -1,111 +1,115 @@
 -- Tokens, and the token call: ISO 6.4 and 6.4.8. Definitions only.
-use Rattle.std.specs.Prelude.{ℕ, ◌+◌, ◌-◌, ◌<◌, ◌≤◌, ◌≡◌, Bool, true, false, cond, List, eqb, ltb, length, get_or}
+use Rattle.std.specs.Prelude.{ℕ, ◌+◌, ◌-◌, ◌<◌, ◌≤◌, ◌≡◌, Bool, true, false, cond, List, eqb, ltb, length, get_or, Option, Result}
 use Rattle.lexer.specs.Chars.{class_of, is, within, small_letter, capital_letter, underscore_char, decimal_digit, layout_char, solo_char, quote_char, newline, double_quote, percent, single_quote, open_paren, close_paren, comma, point, open_bracket, close_bracket, open_brace, close_brace, bar}
 use Rattle.lexer.specs.Cursor.{longest, valid, move_to, Valid}
 use Rattle.lexer.specs.Digits.{is_digit, beyond}
 use Rattle.lexer.specs.Float.{float_value}
 use Rattle.lexer.specs.Layout.{layout_end}
 use Rattle.lexer.specs.Look.{peek, lookahead}
-use Rattle.lexer.specs.Name.{variable_token, name_token}
-use Rattle.lexer.specs.Number.{number_token}
+use Rattle.lexer.specs.Name.{variable_token, name_token, PlainToken, whole_token}
+use Rattle.lexer.specs.Number.{number_token, NumberRead}
 use Rattle.lexer.specs.Quoted.{Quoted, decode}
-use Rattle.lexer.specs.Refusal.{fault}
+use Rattle.lexer.specs.Refusal.{fault, refuse}
 use Rattle.lexer.specs.declared.refusal.Fault.{Fault}
 use Rattle.lexer.specs.declared.refusal.Refusal.TheVariants.{EndOfText, NoToken, ForeignByte, OutOfLimit, NotValid}
 use Rattle.lexer.specs.declared.chars.Peek.{Peek}
-use Rattle.lexer.specs.declared.chars.Look.{Look}
+use Rattle.lexer.specs.Look.{Look}
+use Rattle.std.specs.declared.result.Result.TheVariants.{Ok, Err}
 use Rattle.lexer.specs.declared.cursor.Cursor.{Cursor}
-use Rattle.lexer.specs.declared.cursor.Scan.{Scan}
-use Rattle.lexer.specs.declared.float.Floated.{Floated}
+use Rattle.lexer.specs.Cursor.{Scan}
+use Rattle.lexer.specs.Float.{Floated}
+use Rattle.std.specs.declared.option.Option.TheVariants.{Some, None}
 use Rattle.lexer.specs.declared.number.Numeral.{Numeral}
 use Rattle.lexer.specs.declared.number.NumberToken.{NumberToken}
 use Rattle.lexer.specs.declared.kind.Kind.{Kind}
 use Rattle.lexer.specs.declared.kind.Kind.TheVariants.{Name, Variable, String, Number, Open, OpenCT, Close, OpenList, CloseList, OpenCurly, CloseCurly, HeadTailSeparator, DoubleBar, Comma, End}
 use Rattle.lexer.specs.declared.kind.Value.{Value}
 use Rattle.lexer.specs.declared.kind.Value.TheVariants.{Nothing}
-use Rattle.lexer.specs.declared.kind.Plain.{Plain}
-use Rattle.lexer.specs.declared.kind.Plain.TheVariants.{Whole, Refused}
-use Rattle.lexer.specs.declared.token.Mark.{Mark}
 use Rattle.lexer.specs.declared.token.Token.{Token}
+use Rattle.lexer.specs.declared.token.TokenRead.{TokenRead}
+use Rattle.lexer.specs.declared.refusal.Refused.{Refused}
 use Rattle.lexer.specs.declared.token.Spelling.{Spelling}
 use Rattle.lexer.specs.declared.token.Found.{Found}
 use Rattle.lexer.specs.declared.token.Source.{Source}
 use Rattle.lexer.specs.declared.token.Source.TheVariants.{File, Field}
-use Rattle.lexer.specs.declared.token.Answer.{Answer}
+
+-- what a single character is by itself, if anything
+abbrev pub Mark : Type 0
+Mark = Option Kind
 
 -- ---- tokens that are not quoted, at `at`
 
 -- 6.4.8: the tokens of one character; `(` is Open after layout, else OpenCT
 unfoldable pub mark : Bool → ℕ → Mark
 mark layout x =
-    cond (eqb x open_paren) (cond layout (Mark.Is Open) (Mark.Is OpenCT))
-    (cond (eqb x close_paren) (Mark.Is Close)
-    (cond (eqb x open_bracket) (Mark.Is OpenList)
-    (cond (eqb x close_bracket) (Mark.Is CloseList)
-    (cond (eqb x open_brace) (Mark.Is OpenCurly)
-    (cond (eqb x close_brace) (Mark.Is CloseCurly)
-    (cond (eqb x comma) (Mark.Is Comma)
-    Mark.Other))))))
+    cond (eqb x open_paren) (cond layout (Some Open) (Some OpenCT))
+    (cond (eqb x close_paren) (Some Close)
+    (cond (eqb x open_bracket) (Some OpenList)
+    (cond (eqb x close_bracket) (Some CloseList)
+    (cond (eqb x open_brace) (Some OpenCurly)
+    (cond (eqb x close_brace) (Some CloseCurly)
+    (cond (eqb x comma) (Some Comma)
+    None))))))
 
 -- it is one of these tokens
 abbrev pub is_mark : Mark → Bool
-is_mark (Mark.Is k) = true
-is_mark Mark.Other = false
+is_mark (Some k) = true
+is_mark None = false
 
 -- 01: `|` needs a next character; `||` is one token
-unfoldable pub bar_to : ℕ → Look → Plain
-bar_to at (Look.Refused w) = Refused w
-bar_to at (Look.Byte x) = cond (eqb x bar) (Whole DoubleBar Nothing (at + 2)) (Whole HeadTailSeparator Nothing (at + 1))
+unfoldable pub bar_to : ℕ → Look → PlainToken
+bar_to at (Err w) = Err w
+bar_to at (Ok x) = cond (eqb x bar) (whole_token DoubleBar Nothing (at + 2)) (whole_token HeadTailSeparator Nothing (at + 1))
 
-abbrev pub bar_token : List ℕ → ℕ → Plain
+abbrev pub bar_token : List ℕ → ℕ → PlainToken
 bar_token s at = bar_to at (lookahead s (at + 1))
 
 -- 6.4.8: `.` is the end token if layout or `%` follows; a newline that follows is consumed. -- departs: also if the text ends
-unfoldable pub point_to : List ℕ → ℕ → Peek → Plain
-point_to s at Peek.End = Whole End Nothing (at + 1)
-point_to s at Peek.Foreign = Refused (fault ForeignByte (at + 1))
+unfoldable pub point_to : List ℕ → ℕ → Peek → PlainToken
+point_to s at Peek.End = whole_token End Nothing (at + 1)
+point_to s at Peek.Foreign = Err (fault ForeignByte (at + 1))
 point_to s at (Peek.Byte x) =
-    cond (eqb x newline) (Whole End Nothing (at + 2))
-    (cond (is layout_char x) (Whole End Nothing (at + 1))
-    (cond (eqb x percent) (Whole End Nothing (at + 1))
+    cond (eqb x newline) (whole_token End Nothing (at + 2))
+    (cond (is layout_char x) (whole_token End Nothing (at + 1))
+    (cond (eqb x percent) (whole_token End Nothing (at + 1))
     (name_token s at point)))
 
-abbrev pub end_token : List ℕ → ℕ → Plain
+abbrev pub end_token : List ℕ → ℕ → PlainToken
 end_token s at = point_to s at (peek s (at + 1))
 
 -- a token that begins with a solo character
-unfoldable pub solo_to : List ℕ → ℕ → ℕ → Mark → Plain
-solo_to s at x (Mark.Is k) = Whole k Nothing (at + 1)
-solo_to s at x Mark.Other = cond (eqb x bar) (bar_token s at) (name_token s at x)
+unfoldable pub solo_to : List ℕ → ℕ → ℕ → Mark → PlainToken
+solo_to s at x (Some k) = whole_token k Nothing (at + 1)
+solo_to s at x None = cond (eqb x bar) (bar_token s at) (name_token s at x)
 
-abbrev pub solo_token : List ℕ → ℕ → Bool → ℕ → Plain
+abbrev pub solo_token : List ℕ → ℕ → Bool → ℕ → PlainToken
 solo_token s at layout x = solo_to s at x (mark layout x)
 
 -- 01, refusal 7: a float out of limit
-unfoldable pub floated : ℕ → ℕ → Floated → Plain
-floated at e (Floated.Value v) = Whole Number (Value.Float v) e
-floated at e Floated.Beyond = Refused (fault OutOfLimit at)
+unfoldable pub floated : ℕ → ℕ → Floated → PlainToken
+floated at e (Some v) = whole_token Number (Value.Float v) e
+floated at e None = Err (fault OutOfLimit at)
 
 -- 02, request 4: an integer token's value is its magnitude; 7 "from the next magnitude on"
-unfoldable pub valued : ℕ → ℕ → Numeral → Plain
-valued at e (Numeral.Integer n) = cond (ltb n beyond) (Whole Number (Value.Integer n) e) (Refused (fault OutOfLimit at))
+unfoldable pub valued : ℕ → ℕ → Numeral → PlainToken
+valued at e (Numeral.Integer n) = cond (ltb n beyond) (whole_token Number (Value.Integer n) e) (Err (fault OutOfLimit at))
 valued at e (Numeral.Float m sign x f) = floated at e (float_value m sign x f)
 
 -- 01: a number that reaches the end of the text, a partial one, is refusal 1
-unfoldable pub numbered : ℕ → NumberToken → Plain
-numbered at (NumberToken.Whole n e) = valued at e n
-numbered at (NumberToken.Partial n e) = Refused (fault EndOfText e)
-numbered at (NumberToken.Refused w) = Refused w
+unfoldable pub numbered : ℕ → NumberRead → PlainToken
+numbered at (Ok (NumberToken.Whole n e)) = valued at e n
+numbered at (Ok (NumberToken.Partial n e)) = Err (fault EndOfText e)
+numbered at (Err w) = Err w
 
 -- 02, request 7: but in a field it is whole. Nothing else hangs on the text's origin, a file or a field
-abbrev pub sourced : Source → NumberToken → NumberToken
+abbrev pub sourced : Source → NumberRead → NumberRead
 sourced File x = x
-sourced Field (NumberToken.Whole n e) = NumberToken.Whole n e
-sourced Field (NumberToken.Partial n e) = NumberToken.Whole n e
-sourced Field (NumberToken.Refused w) = NumberToken.Refused w
+sourced Field (Ok (NumberToken.Whole n e)) = Ok (NumberToken.Whole n e)
+sourced Field (Ok (NumberToken.Partial n e)) = Ok (NumberToken.Whole n e)
+sourced Field (Err w) = Err w
 
 -- 6.4: a token that begins with x and is not quoted
-unfoldable pub plain_token : Source → List ℕ → ℕ → Bool → ℕ → Plain
+unfoldable pub plain_token : Source → List ℕ → ℕ → Bool → ℕ → PlainToken
 plain_token origin s at layout x =
     cond (is decimal_digit x) (numbered at (sourced origin (number_token s at)))
     (cond (is solo_char x) (solo_token s at layout x)
@@ -166,9 +170,9 @@ is_comma DoubleBar = false
 is_comma Comma = true
 is_comma End = false
 
-unfoldable pub plain_lexeme : ℕ → Plain → Lexeme
-plain_lexeme at (Whole k v e) = lexeme (token k v at) e (text_of k)
-plain_lexeme at (Refused w) = refused w
+unfoldable pub plain_lexeme : ℕ → PlainToken → Lexeme
+plain_lexeme at (Ok p) = lexeme (token p.kind p.value at) p.end (text_of p.kind)
+plain_lexeme at (Err w) = refused w
 
 unfoldable pub quoted_to : Kind → ℕ → Quoted → Lexeme
 quoted_to k at (Quoted.whole bs e) = lexeme (token k Nothing at) e (decoded bs)
@@ -183,15 +187,15 @@ quoted_lexeme s at x =
 
 -- a token that begins with x; `layout` says whether layout stands before it
 unfoldable pub lexeme_to : Source → List ℕ → ℕ → Bool → Look → Lexeme
-lexeme_to origin s at layout (Look.Refused w) = refused w
-lexeme_to origin s at layout (Look.Byte x) =
+lexeme_to origin s at layout (Err w) = refused w
+lexeme_to origin s at layout (Ok x) =
     cond (is quote_char x) (quoted_lexeme s at x)
     (plain_lexeme at (plain_token origin s at layout x))
 
 -- 6.4: layout text, then a token
 unfoldable pub after_layout : Source → List ℕ → ℕ → Scan → Lexeme
-after_layout origin s from (Scan.Refused w) = refused w
-after_layout origin s from (Scan.Stop at) = lexeme_to origin s at (ltb from at) (lookahead s at)
+after_layout origin s from (Err w) = refused w
+after_layout origin s from (Ok at) = lexeme_to origin s at (ltb from at) (lookahead s at)
 
 abbrev pub behind_layout : Source → List ℕ → ℕ → Lexeme
 behind_layout origin s from = after_layout origin s from (layout_end s from)
@@ -210,9 +214,16 @@ read_lexeme origin s from = lexeme_since from (behind_layout origin s from)
 
 -- ---- the call
 
+-- a token and the cursor behind it; or a refusal
+abbrev pub Answer : Type 0
+Answer = Result TokenRead Refused
+
+abbrev pub token_read : Token → Cursor → Answer
+token_read t c = Ok (record { token = t; next = c })
+
 unfoldable pub answered : List ℕ → Cursor → Lexeme → Answer
-answered s c (lexeme t e x) = Answer.Read t (move_to s c e)
-answered s c (refused w) = Answer.Refused w c
+answered s c (lexeme t e x) = token_read t (move_to s c e)
+answered s c (refused w) = refuse w c
 
 -- 01, refusal 8: a text that is too long or a cursor that is not valid, before anything is read
 abbrev pub not_valid : Fault
@@ -220,11 +231,11 @@ not_valid = fault NotValid 0
 
 -- 02, request 7: one call, "told whether the text is a file or a field"
 abbrev pub next_token : Source → List ℕ → Cursor → Answer
-next_token origin s c = cond (valid (length s) c) (answered s c (read_lexeme origin s c.offset)) (Answer.Refused not_valid c)
+next_token origin s c = cond (valid (length s) c) (answered s c (read_lexeme origin s c.offset)) (refuse not_valid c)
 
 -- the token of a file at a cursor, where no layout is passed over; `layout` says whether layout stands before it
 abbrev pub token_here : Bool → List ℕ → Cursor → Answer
-token_here layout s c = cond (valid (length s) c) (answered s c (lexeme_to File s c.offset layout (lookahead s c.offset))) (Answer.Refused not_valid c)
+token_here layout s c = cond (valid (length s) c) (answered s c (lexeme_to File s c.offset layout (lookahead s c.offset))) (refuse not_valid c)
 
 -- ---- what the code keeps of a token that it found at the cursor c: how long its decoded text is, and the cursor behind it
 abbrev pub kept : Text → Spelling
@@ -232,19 +243,25 @@ kept source = Spelling.Source
 kept (decoded bs) = Spelling.Decoded (length bs)
 kept none = Spelling.Absent
 
--- with the cursor by its fields, as the code holds it
-abbrev pub spelled_to : Token → Spelling → Cursor → Found
-spelled_to t p c = Found.Whole c.offset t c.line p c.column
+abbrev pub FoundToken : Type 0
+FoundToken = Result Found Fault
 
-unfoldable pub found : List ℕ → Cursor → Lexeme → Found
+abbrev pub found_whole : ℕ → Token → ℕ → Spelling → ℕ → FoundToken
+found_whole o t l p k = Ok (record { offset = o; token = t; line = l; spelling = p; column = k })
+
+-- with the cursor by its fields, as the code holds it
+abbrev pub spelled_to : Token → Spelling → Cursor → FoundToken
+spelled_to t p c = found_whole c.offset t c.line p c.column
+
+unfoldable pub found : List ℕ → Cursor → Lexeme → FoundToken
 found s c (lexeme t e x) = spelled_to t (kept x) (move_to s c e)
-found s c (refused w) = Found.Refused w
+found s c (refused w) = Err w
 
 -- ---- what the private functions ask
 
 -- the byte x stands at `at`, in a text that is not too long
 pub record At (s : List ℕ) (at x : ℕ) : Type 0 where
-  pub there : lookahead s at ≡ Look.Byte x
+  pub there : lookahead s at ≡ Ok x
   pub short : length s ≤ longest
 
 -- a digit stands there
@@ -256,13 +273,13 @@ pub record AtDigit (s : List ℕ) (at : ℕ) : Type 0 where
 -- and it is no mark, no letter and not the underscore
 pub record Unmarked (s : List ℕ) (at x : ℕ) : Type 0 where
   pub at_byte : At s at x
-  pub unmarked : mark false x ≡ Mark.Other
+  pub unmarked : mark false x ≡ None
   pub no_letter : within small_letter underscore_char (class_of x) ≡ false
 
 -- a valid cursor at the byte x
 pub record Begins (s : List ℕ) (c : Cursor) (x : ℕ) : Type 0 where
   pub valid : Valid (length s) c
-  pub there : lookahead s c.offset ≡ Look.Byte x
+  pub there : lookahead s c.offset ≡ Ok x
 
 -- and that is a quote
 pub record Quotes (s : List ℕ) (c : Cursor) (x : ℕ) : Type 0 where

@@ -5,7 +5,7 @@ ghost use Rattle.lexer.specs.Look.{peek, lookahead};
 use crate::classes::is_foreign;
 use crate::refusal::{Fault, Refusal};
 
-// What stands at an offset.
+// What stands at an offset: three outcomes, each of which the rules answer in their own way, so no Option.
 #[derive(Clone, Copy)]
 pub enum Peek {
     Byte(u8),
@@ -27,22 +27,16 @@ pub(crate) fn peek_char(text: &[u8], at: usize) -> Peek
 }
 
 // The character that a rule needs, or why it is refused.
-#[derive(Clone, Copy)]
-pub enum Look {
-    Byte(u8),
-    Refused(Fault),
-}
-
-pub(crate) fn lookahead_char(text: &[u8], at: usize) -> Look
+pub(crate) fn lookahead_char(text: &[u8], at: usize) -> Result<u8, Fault>
     ensures { result ≡ lookahead text.now at }
 {
     match peek_char(text, at) {
-        Peek::Byte(b) => Look::Byte(b),
-        Peek::Foreign => Look::Refused(Fault {
+        Peek::Byte(b) => Ok(b),
+        Peek::Foreign => Err(Fault {
             refusal: Refusal::ForeignByte,
             offset: at,
         }),
-        Peek::End => Look::Refused(Fault {
+        Peek::End => Err(Fault {
             refusal: Refusal::EndOfText,
             offset: at,
         }),

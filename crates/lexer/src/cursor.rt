@@ -2,27 +2,11 @@
 ghost use Rattle.std.specs.Prelude.{◌≡◌, ◌-◌};
 ghost use Rattle.lexer.specs.Cursor.{step, along, valid, Movable, Along};
 
-use crate::refusal::Fault;
-
 #[derive(Clone, Copy)]
 pub struct Cursor {
     pub offset: usize,
     pub line: usize,
     pub column: usize,
-}
-
-// Where a scan stops, as an offset.
-#[derive(Clone, Copy)]
-pub enum Scan {
-    Stop(usize),
-    Refused(Fault),
-}
-
-// The same, as a cursor.
-#[derive(Clone, Copy)]
-pub enum Moved {
-    To(Cursor),
-    Refused(Fault),
 }
 
 const LONGEST: usize = 65535;

@@ -9,7 +9,7 @@ pub struct Digits {
     pub end: usize,
 }
 
-// What a digit stands for; 16 where the byte is none.
+// What a digit stands for; 16 where the byte is none, so that one comparison with the base serves every base: an Option would be looked into first.
 pub(crate) fn digit(b: u8) -> u64
     ensures { result ≡ digit_of b }
 {
@@ -68,14 +68,15 @@ pub(crate) fn read_digits(text: &[u8], from: usize, base: u64, value: u64) -> Di
     ensures { result ≡ held (digits_at base value text.now from) }
 {
     let mut v = value;
-    let mut at = from;
-    while at < text.len() {
+    for at in from..text.len() {
         let d = digit(text[at]);
         if base <= d {
             return Digits { value: v, end: at };
         }
         v = grown(v, base, d);
-        at += 1;
     }
-    Digits { value: v, end: at }
+    Digits {
+        value: v,
+        end: from.max(text.len()),
+    }
 }

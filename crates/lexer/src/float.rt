@@ -35,13 +35,6 @@ const TENS: [f64; 23] = [
     10000000000000000000000.0,
 ];
 
-// A value, or out of limit.
-#[derive(Clone, Copy)]
-pub enum Floated {
-    Value(f64),
-    Beyond,
-}
-
 // m times ten to the k, or m by ten to the k: one operation of exact operands, so one rounding.
 fn scaled(m: u64, up: bool, k: u64) -> f64
     requires { Limits m (scale_of up k) }
@@ -53,29 +46,29 @@ fn scaled(m: u64, up: bool, k: u64) -> f64
 }
 
 // The same for any m and k.
-fn within_limits(m: u64, up: bool, k: u64) -> Floated
+fn within_limits(m: u64, up: bool, k: u64) -> Option<f64>
     ensures { result ≡ within_limits m (scale_of up k) }
 {
     if m > LARGEST_DIGITS {
-        return Floated::Beyond;
+        return None;
     }
     if k > LARGEST_TENS {
-        return Floated::Beyond;
+        return None;
     }
-    Floated::Value(scaled(m, up, k))
+    Some(scaled(m, up, k))
 }
 
 // The digits m, the exponent's sign and size x, and f fraction digits.
-pub fn float_value(m: u64, minus: bool, x: u64, f: u64) -> Floated
+pub fn float_value(m: u64, minus: bool, x: u64, f: u64) -> Option<f64>
     ensures { result ≡ float_value m minus x f }
 {
     if minus {
         // the sum of two that are in the limit is no overflow
         if x > LARGEST_TENS {
-            return Floated::Beyond;
+            return None;
         }
         if f > LARGEST_TENS {
-            return Floated::Beyond;
+            return None;
         }
         return within_limits(m, false, x + f);
     }

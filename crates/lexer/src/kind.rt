@@ -1,6 +1,4 @@
 // What a token is.
-use crate::refusal::Fault;
-
 #[derive(Clone, Copy)]
 pub enum Kind {
     Name,
@@ -29,11 +27,8 @@ pub enum Value {
 
 // A token that is not quoted, without its place.
 #[derive(Clone, Copy)]
-pub enum Plain {
-    Whole {
-        kind: Kind,
-        value: Value,
-        end: usize,
-    },
-    Refused(Fault),
+pub struct Plain {
+    pub kind: Kind,
+    pub value: Value,
+    pub end: usize,
 }

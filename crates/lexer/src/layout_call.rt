@@ -1,5 +1,5 @@
 // The layout call.
-ghost use Rattle.std.specs.Prelude.{◌≡◌, length};
+ghost use Rattle.std.specs.Prelude.{◌≡◌, length, Ok};
 ghost use Rattle.lexer.specs.Chars.{is, layout_char};
 ghost use Rattle.lexer.specs.Cursor.{Valid, move_to};
 ghost use Rattle.lexer.specs.Layout.{layout_text};
@@ -8,8 +8,8 @@ ghost use Rattle.lexer.specs.Stretch.{run_of};
 
 use crate::classes::is_layout;
 use crate::cursor::{Cursor, is_valid, skip_char};
-use crate::layout::{Layout, consume_layout};
-use crate::refusal::Fault;
+use crate::layout::consume_layout;
+use crate::refusal::Refused;
 use crate::token::not_valid;
 
 // What a layout text is: layout characters, in a run; a `%` comment; a bracketed comment.
@@ -20,19 +20,16 @@ pub enum LayoutKind {
     Bracketed,
 }
 
-// A layout text, whose span ends where the cursor behind it stands; none; a refusal.
+// What the layout call answers: a layout text, whose span ends where the cursor behind it stands; or none, with the caller's cursor, which is promised here
+// too (`layout_given` of specs/LayoutCall).
 #[derive(Clone, Copy)]
-pub enum LayoutAnswer {
-    Read {
+pub enum LayoutRead {
+    Text {
         kind: LayoutKind,
         start: usize,
         next: Cursor,
     },
     Absent {
-        cursor: Cursor,
-    },
-    Refused {
-        fault: Fault,
         cursor: Cursor,
     },
 }
@@ -56,58 +53,58 @@ fn past_blanks(text: &[u8], cursor: Cursor) -> Cursor
     ensures { result ≡ move_to text.now cursor (run_of (is layout_char) text.now cursor.offset) }
 {
     let mut c = cursor;
-    while c.offset < text.len() {
-        let at = c.offset;
+    for at in cursor.offset..text.len() {
         let b = text[at];
-        if is_layout(b) {
-            c = skip_char(c, b);
-        } else {
+        if !is_layout(b) {
             return c;
         }
+        c = skip_char(c, b);
     }
     c
 }
 
 // The layout text at the cursor, which ends at `next`.
-fn layout_given(text: &[u8], cursor: Cursor, next: Cursor) -> LayoutAnswer
+fn layout_given(text: &[u8], cursor: Cursor, next: Cursor) -> LayoutRead
     requires { Given text.now cursor next }
-    ensures { result ≡ layout_given text.now cursor (layout_text text.now cursor.offset) }
+    ensures { Ok result ≡ layout_given text.now cursor (layout_text text.now cursor.offset) }
 {
     let start = cursor.offset;
     let kind = layout_kind(text[start]);
     match kind {
-        LayoutKind::Blanks => LayoutAnswer::Read {
+        LayoutKind::Blanks => LayoutRead::Text {
             kind,
             start,
             next: past_blanks(text, cursor),
         },
-        LayoutKind::SingleLine => LayoutAnswer::Read { kind, start, next },
-        LayoutKind::Bracketed => LayoutAnswer::Read { kind, start, next },
+        LayoutKind::SingleLine => LayoutRead::Text { kind, start, next },
+        LayoutKind::Bracketed => LayoutRead::Text { kind, start, next },
     }
 }
 
 // What the layout call answers at a valid cursor.
-fn layout_at(text: &[u8], cursor: Cursor) -> LayoutAnswer
+fn layout_at(text: &[u8], cursor: Cursor) -> Result<LayoutRead, Refused>
     requires { Valid (length text.now) cursor }
     ensures { result ≡ layout_given text.now cursor (layout_text text.now cursor.offset) }
 {
     match consume_layout(text, cursor) {
-        Layout::Refused(fault) => LayoutAnswer::Refused { fault, cursor },
-        Layout::Absent => LayoutAnswer::Absent { cursor },
-        Layout::To(next) => layout_given(text, cursor, next),
+        Err(fault) => Err(Refused { fault, cursor }),
+        Ok(layout) => match layout {
+            None => Ok(LayoutRead::Absent { cursor }),
+            Some(next) => Ok(layout_given(text, cursor, next)),
+        },
     }
 }
 
 // The layout call: one layout text at a time.
-pub fn next_layout(text: &[u8], cursor: Cursor) -> LayoutAnswer
+pub fn next_layout(text: &[u8], cursor: Cursor) -> Result<LayoutRead, Refused>
     ensures { result ≡ next_layout text.now cursor }
 {
     if is_valid(text.len(), cursor) {
         layout_at(text, cursor)
     } else {
-        LayoutAnswer::Refused {
+        Err(Refused {
             fault: not_valid(),
             cursor,
-        }
+        })
     }
 }

@@ -7,7 +7,7 @@ ghost use Rattle.lexer.specs.declared.refusal.Refusal.TheVariants.{ForeignByte};
 ghost use Rattle.lexer.specs.declared.chars.Peek.{Peek};
 ghost use Rattle.lexer.specs.Number.{radix_constant, character_code_constant, zero_to, exponent_digits, sign_to, letter_to, exponent, float, fraction, point_to, integer_to, number_token, number_end, held_exponent, held_number, Radix, Read, Led};
 
-use crate::chars::{Look, Peek, lookahead_char, peek_char};
+use crate::chars::{Peek, lookahead_char, peek_char};
 use crate::digits::{BEYOND, Digits, digit, read_digits};
 use crate::quoted::{Item, quoted_item};
 use crate::refusal::{Fault, Refusal};
@@ -30,7 +30,6 @@ pub enum Numeral {
 pub enum NumberToken {
     Whole { numeral: Numeral, end: usize },
     Partial { numeral: Numeral, end: usize },
-    Refused(Fault),
 }
 
 // A float's exponent: none; none, with the end of the text; one that is whole, or that reaches the end of the text.
@@ -40,7 +39,6 @@ pub enum Exponent {
     Ended,
     Whole { minus: bool, value: u64, end: usize },
     Partial { minus: bool, value: u64, end: usize },
-    Refused(Fault),
 }
 
 fn foreign_byte(offset: usize) -> Fault
@@ -62,29 +60,25 @@ fn integer(value: u64, end: usize) -> NumberToken
 }
 
 // The hexadecimal, octal or binary constant whose 0 is at `zero`: one body over the base.
-fn radix_constant(text: &[u8], zero: usize, base: u64) -> NumberToken
+fn radix_constant(text: &[u8], zero: usize, base: u64) -> Result<NumberToken, Fault>
     requires { Radix (length text.now) base zero }
     ensures { result ≡ held_number (radix_constant base text.now zero) }
 {
     let first = zero + 2;
-    match lookahead_char(text, first) {
-        Look::Refused(fault) => NumberToken::Refused(fault),
-        Look::Byte(b) => {
-            if base <= digit(b) {
-                return integer(0, zero + 1);
-            }
-            let read = read_digits(text, first, base, 0);
-            let end = read.end;
-            match peek_char(text, end) {
-                Peek::Foreign => NumberToken::Refused(foreign_byte(end)),
-                Peek::End => integer(read.value, end),
-                Peek::Byte(_) => integer(read.value, end),
-            }
-        }
+    let b = lookahead_char(text, first)?;
+    if base <= digit(b) {
+        return Ok(integer(0, zero + 1));
+    }
+    let read = read_digits(text, first, base, 0);
+    let end = read.end;
+    match peek_char(text, end) {
+        Peek::Foreign => Err(foreign_byte(end)),
+        Peek::End => Ok(integer(read.value, end)),
+        Peek::Byte(_) => Ok(integer(read.value, end)),
     }
 }
 
-// A character's code, which is far below what is held.
+// A character's code. That it is far below what is held is said here once: a plain cast would leave that to the proof of its caller.
 fn wide(b: u8) -> u64
     ensures { result ≡ min b beyond }
 {
@@ -92,24 +86,23 @@ fn wide(b: u8) -> u64
 }
 
 // The character code constant whose 0 is at `zero`.
-fn character_code_constant(text: &[u8], zero: usize) -> NumberToken
+fn character_code_constant(text: &[u8], zero: usize) -> Result<NumberToken, Fault>
     requires { zero + 1 < length text.now }
     ensures { result ≡ held_number (character_code_constant text.now zero) }
 {
-    match quoted_item(text, zero + 2, b'\'', zero) {
-        Item::Char { code, next } => integer(wide(code), next),
-        Item::Beyond { next } => integer(BEYOND, next),
-        Item::Skip { next: _ } => NumberToken::Refused(Fault {
+    match quoted_item(text, zero + 2, b'\'', zero)? {
+        Item::Char { code, next } => Ok(integer(wide(code), next)),
+        Item::Beyond { next } => Ok(integer(BEYOND, next)),
+        Item::Skip { next: _ } => Err(Fault {
             refusal: Refusal::SetAside,
             offset: zero,
         }),
-        Item::Close { next: _ } => integer(0, zero + 1),
-        Item::Refused(fault) => NumberToken::Refused(fault),
+        Item::Close { next: _ } => Ok(integer(0, zero + 1)),
     }
 }
 
 // The number whose digits are exactly the 0 at `zero`, behind which stands `b`.
-fn zero_led(text: &[u8], zero: usize, b: u8) -> NumberToken
+fn zero_led(text: &[u8], zero: usize, b: u8) -> Result<NumberToken, Fault>
     requires { zero + 1 < length text.now }
     ensures { result ≡ held_number (zero_to text.now zero b) }
 {
@@ -118,47 +111,47 @@ fn zero_led(text: &[u8], zero: usize, b: u8) -> NumberToken
         b'o' => radix_constant(text, zero, 8),
         b'b' => radix_constant(text, zero, 2),
         b'\'' => character_code_constant(text, zero),
-        _ => integer(0, zero + 1),
+        _ => Ok(integer(0, zero + 1)),
     }
 }
 
 // The exponent's digits, which start at `at`.
-fn exponent_digits(text: &[u8], at: usize, minus: bool) -> Exponent
+fn exponent_digits(text: &[u8], at: usize, minus: bool) -> Result<Exponent, Fault>
     ensures { result ≡ held_exponent (exponent_digits text.now minus at) }
 {
     let read = read_digits(text, at, 10, 0);
     let end = read.end;
     let value = read.value;
     match peek_char(text, end) {
-        Peek::Foreign => Exponent::Refused(foreign_byte(end)),
-        Peek::End => Exponent::Partial { minus, value, end },
-        Peek::Byte(_) => Exponent::Whole { minus, value, end },
+        Peek::Foreign => Err(foreign_byte(end)),
+        Peek::End => Ok(Exponent::Partial { minus, value, end }),
+        Peek::Byte(_) => Ok(Exponent::Whole { minus, value, end }),
     }
 }
 
 // Behind the exponent's sign, or its letter where it has no sign.
-fn exponent_sign(text: &[u8], at: usize, minus: bool) -> Exponent
+fn exponent_sign(text: &[u8], at: usize, minus: bool) -> Result<Exponent, Fault>
     ensures { result ≡ held_exponent (sign_to text.now minus at (peek text.now at)) }
 {
     match peek_char(text, at) {
-        Peek::End => Exponent::Absent,
-        Peek::Foreign => Exponent::Refused(foreign_byte(at)),
+        Peek::End => Ok(Exponent::Absent),
+        Peek::Foreign => Err(foreign_byte(at)),
         Peek::Byte(b) => {
             if digit(b) < 10 {
                 return exponent_digits(text, at, minus);
             }
-            Exponent::Absent
+            Ok(Exponent::Absent)
         }
     }
 }
 
 // Behind the exponent's letter.
-fn exponent_letter(text: &[u8], at: usize) -> Exponent
+fn exponent_letter(text: &[u8], at: usize) -> Result<Exponent, Fault>
     ensures { result ≡ held_exponent (letter_to text.now at (peek text.now at)) }
 {
     match peek_char(text, at) {
-        Peek::End => Exponent::Absent,
-        Peek::Foreign => Exponent::Refused(foreign_byte(at)),
+        Peek::End => Ok(Exponent::Absent),
+        Peek::Foreign => Err(foreign_byte(at)),
         Peek::Byte(b) => match b {
             b'+' => exponent_sign(text, at + 1, false),
             b'-' => exponent_sign(text, at + 1, true),
@@ -167,25 +160,30 @@ fn exponent_letter(text: &[u8], at: usize) -> Exponent
     }
 }
 
-fn exponent_part(text: &[u8], at: usize) -> Exponent
+fn exponent_part(text: &[u8], at: usize) -> Result<Exponent, Fault>
     ensures { result ≡ held_exponent (exponent text.now at) }
 {
     match peek_char(text, at) {
-        Peek::End => Exponent::Ended,
-        Peek::Foreign => Exponent::Refused(foreign_byte(at)),
+        Peek::End => Ok(Exponent::Ended),
+        Peek::Foreign => Err(foreign_byte(at)),
         Peek::Byte(b) => match b {
             b'e' | b'E' => exponent_letter(text, at + 1),
-            _ => Exponent::Absent,
+            _ => Ok(Exponent::Absent),
         },
     }
 }
 
 // A float of those digits, of which `fraction` stand behind the point; they end at `end`.
-fn float_token(digits: u64, fraction: u64, end: usize, exponent: Exponent) -> NumberToken
+fn float_token(
+    digits: u64,
+    fraction: u64,
+    end: usize,
+    exponent: Result<Exponent, Fault>,
+) -> Result<NumberToken, Fault>
     ensures { result ≡ float digits fraction end exponent }
 {
-    match exponent {
-        Exponent::Absent => NumberToken::Whole {
+    match exponent? {
+        Exponent::Absent => Ok(NumberToken::Whole {
             numeral: Numeral::Float {
                 digits,
                 minus: false,
@@ -193,8 +191,8 @@ fn float_token(digits: u64, fraction: u64, end: usize, exponent: Exponent) -> Nu
                 fraction,
             },
             end,
-        },
-        Exponent::Ended => NumberToken::Partial {
+        }),
+        Exponent::Ended => Ok(NumberToken::Partial {
             numeral: Numeral::Float {
                 digits,
                 minus: false,
@@ -202,8 +200,8 @@ fn float_token(digits: u64, fraction: u64, end: usize, exponent: Exponent) -> Nu
                 fraction,
             },
             end,
-        },
-        Exponent::Whole { minus, value, end } => NumberToken::Whole {
+        }),
+        Exponent::Whole { minus, value, end } => Ok(NumberToken::Whole {
             numeral: Numeral::Float {
                 digits,
                 minus,
@@ -211,8 +209,8 @@ fn float_token(digits: u64, fraction: u64, end: usize, exponent: Exponent) -> Nu
                 fraction,
             },
             end,
-        },
-        Exponent::Partial { minus, value, end } => NumberToken::Partial {
+        }),
+        Exponent::Partial { minus, value, end } => Ok(NumberToken::Partial {
             numeral: Numeral::Float {
                 digits,
                 minus,
@@ -220,13 +218,12 @@ fn float_token(digits: u64, fraction: u64, end: usize, exponent: Exponent) -> Nu
                 fraction,
             },
             end,
-        },
-        Exponent::Refused(fault) => NumberToken::Refused(fault),
+        }),
     }
 }
 
 // The float whose integer's digits are `whole`, with a point and a digit behind them.
-fn fraction_part(text: &[u8], whole: Digits) -> NumberToken
+fn fraction_part(text: &[u8], whole: Digits) -> Result<NumberToken, Fault>
     requires { Read text.now whole }
     ensures { result ≡ held_number (fraction text.now whole) }
 {
@@ -242,40 +239,40 @@ fn fraction_part(text: &[u8], whole: Digits) -> NumberToken
 }
 
 // Behind the point: a float, or the integer without the point.
-fn point_token(text: &[u8], whole: Digits) -> NumberToken
+fn point_token(text: &[u8], whole: Digits) -> Result<NumberToken, Fault>
     requires { Read text.now whole }
     ensures { result ≡ held_number (point_to text.now whole (peek text.now (whole.end + 1))) }
 {
     let next = whole.end + 1;
     match peek_char(text, next) {
-        Peek::End => integer(whole.value, whole.end),
-        Peek::Foreign => NumberToken::Refused(foreign_byte(next)),
+        Peek::End => Ok(integer(whole.value, whole.end)),
+        Peek::Foreign => Err(foreign_byte(next)),
         Peek::Byte(b) => {
             if digit(b) < 10 {
                 return fraction_part(text, whole);
             }
-            integer(whole.value, whole.end)
+            Ok(integer(whole.value, whole.end))
         }
     }
 }
 
 // The number behind whose leading digits, `whole`, stands `b`.
-fn integer_led(text: &[u8], at: usize, whole: Digits, b: u8) -> NumberToken
+fn integer_led(text: &[u8], at: usize, whole: Digits, b: u8) -> Result<NumberToken, Fault>
     requires { Led text.now at whole }
     ensures { result ≡ held_number (integer_to text.now at whole (Peek.Byte b)) }
 {
     match b {
-        b'_' => NumberToken::Refused(Fault {
+        b'_' => Err(Fault {
             refusal: Refusal::SetAside,
             offset: at,
         }),
         b'.' => point_token(text, whole),
         _ => {
             if whole.end != at + 1 {
-                return integer(whole.value, whole.end);
+                return Ok(integer(whole.value, whole.end));
             }
             if whole.value != 0 {
-                return integer(whole.value, whole.end);
+                return Ok(integer(whole.value, whole.end));
             }
             zero_led(text, at, b)
         }
@@ -283,29 +280,30 @@ fn integer_led(text: &[u8], at: usize, whole: Digits, b: u8) -> NumberToken
 }
 
 // The number that the digit at `at` begins.
-pub(crate) fn number_token(text: &[u8], at: usize) -> NumberToken
+pub(crate) fn number_token(text: &[u8], at: usize) -> Result<NumberToken, Fault>
     requires { at < length text.now }
     ensures { result ≡ held_number (number_token text.now at) }
 {
     let whole = read_digits(text, at, 10, 0);
     let end = whole.end;
     match peek_char(text, end) {
-        Peek::End => NumberToken::Partial {
+        Peek::End => Ok(NumberToken::Partial {
             numeral: Numeral::Integer(whole.value),
             end,
-        },
-        Peek::Foreign => NumberToken::Refused(foreign_byte(end)),
+        }),
+        Peek::Foreign => Err(foreign_byte(end)),
         Peek::Byte(b) => integer_led(text, at, whole, b),
     }
 }
 
-fn end_of(number: NumberToken) -> usize
+// 0 where it is refused, as the contract of `number_end` has it, which is public.
+fn end_of(number: Result<NumberToken, Fault>) -> usize
     ensures { result ≡ number_end number }
 {
     match number {
-        NumberToken::Whole { numeral: _, end } => end,
-        NumberToken::Partial { numeral: _, end } => end,
-        NumberToken::Refused(_) => 0,
+        Ok(NumberToken::Whole { numeral: _, end }) => end,
+        Ok(NumberToken::Partial { numeral: _, end }) => end,
+        Err(_) => 0,
     }
 }
 

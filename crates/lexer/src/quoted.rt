@@ -1,5 +1,5 @@
 // Quoted items: escapes, and the text of a quoted token.
-ghost use Rattle.std.specs.Prelude.{◌≡◌, length};
+ghost use Rattle.std.specs.Prelude.{◌≡◌, length, Err};
 ghost use Rattle.std.proofs.lemmas.List.Edits.{sets};
 ghost use Rattle.lexer.specs.Cursor.{Valid};
 ghost use Rattle.lexer.specs.Digits.{Based};
@@ -8,7 +8,7 @@ ghost use Rattle.lexer.specs.Refusal.{fault};
 ghost use Rattle.lexer.specs.declared.refusal.Refusal.TheVariants.{BadQuoted};
 ghost use Rattle.lexer.specs.Quoted.{escape_of, coded, numeric_escape, escape, quote_to, quoted_item, decode, measured, bytes_of, Writes};
 
-use crate::chars::{Look, lookahead_char};
+use crate::chars::lookahead_char;
 use crate::classes::is_quote;
 use crate::cursor::{Cursor, skip_along, skip_char};
 use crate::digits::{digit, read_digits};
@@ -22,7 +22,6 @@ pub enum Item {
     Beyond { next: usize },
     Skip { next: usize },
     Close { next: usize },
-    Refused(Fault),
 }
 
 const ALERT: u8 = 7;
@@ -69,133 +68,120 @@ fn escape_char(b: u8) -> u8
 const LARGEST_CODE: u64 = 127;
 
 // The character of a code, which may be out of limit.
-fn code_char(code: u64, next: usize) -> Item
+fn code_char(code: u64, next: usize) -> Result<Item, Fault>
     ensures { result ≡ coded code next }
 {
     if code == 0 {
-        return Item::Beyond { next };
+        return Ok(Item::Beyond { next });
     }
     if LARGEST_CODE < code {
-        return Item::Beyond { next };
+        return Ok(Item::Beyond { next });
     }
-    Item::Char {
+    Ok(Item::Char {
         code: code as u8,
         next,
-    }
+    })
 }
 
-fn bad_quoted(token: usize) -> Item
-    ensures { result ≡ Item.Refused (fault BadQuoted token) }
+fn bad_quoted(token: usize) -> Result<Item, Fault>
+    ensures { result ≡ Err (fault BadQuoted token) }
 {
-    Item::Refused(Fault {
+    Err(Fault {
         refusal: Refusal::BadQuoted,
         offset: token,
     })
 }
 
 // An octal or hexadecimal escape, whose digits start at `at`.
-fn escape_sequence_to_char(text: &[u8], at: usize, base: u64, token: usize) -> Item
+fn escape_sequence_to_char(text: &[u8], at: usize, base: u64, token: usize) -> Result<Item, Fault>
     requires { Based base 0 }
     ensures { result ≡ numeric_escape base token text.now at }
 {
     let read = read_digits(text, at, base, 0);
     let end = read.end;
-    match lookahead_char(text, end) {
-        Look::Refused(fault) => Item::Refused(fault),
-        Look::Byte(b) => {
-            if b != b'\\' {
-                return bad_quoted(token);
-            }
-            if end == at {
-                return bad_quoted(token);
-            }
-            code_char(read.value, end + 1)
-        }
+    if lookahead_char(text, end)? != b'\\' {
+        return bad_quoted(token);
     }
+    if end == at {
+        return bad_quoted(token);
+    }
+    code_char(read.value, end + 1)
 }
 
 // What a backslash before `at` escapes.
-fn escape_sequence(text: &[u8], at: usize, token: usize) -> Item
+fn escape_sequence(text: &[u8], at: usize, token: usize) -> Result<Item, Fault>
     ensures { result ≡ escape token text.now at }
 {
-    match lookahead_char(text, at) {
-        Look::Refused(fault) => Item::Refused(fault),
-        Look::Byte(b) => {
-            if b == b'\n' {
-                return Item::Skip { next: at + 1 };
-            }
-            if digit(b) < 8 {
-                return escape_sequence_to_char(text, at, 8, token);
-            }
-            if b == b'x' {
-                return escape_sequence_to_char(text, at + 1, 16, token);
-            }
-            let code = escape_char(b);
-            if code == 0 {
-                return bad_quoted(token);
-            }
-            Item::Char { code, next: at + 1 }
-        }
+    let b = lookahead_char(text, at)?;
+    if b == b'\n' {
+        return Ok(Item::Skip { next: at + 1 });
     }
+    if digit(b) < 8 {
+        return escape_sequence_to_char(text, at, 8, token);
+    }
+    if b == b'x' {
+        return escape_sequence_to_char(text, at + 1, 16, token);
+    }
+    let code = escape_char(b);
+    if code == 0 {
+        return bad_quoted(token);
+    }
+    Ok(Item::Char { code, next: at + 1 })
 }
 
 // What a quote before `at` is: the first of two, or the closing one.
-fn after_quote(text: &[u8], at: usize, quote: u8) -> Item
+fn after_quote(text: &[u8], at: usize, quote: u8) -> Result<Item, Fault>
     ensures { result ≡ quote_to quote at (lookahead text.now at) }
 {
-    match lookahead_char(text, at) {
-        Look::Refused(fault) => Item::Refused(fault),
-        Look::Byte(b) => {
-            if b == quote {
-                return Item::Char {
-                    code: quote,
-                    next: at + 1,
-                };
-            }
-            Item::Close { next: at }
-        }
+    if lookahead_char(text, at)? == quote {
+        return Ok(Item::Char {
+            code: quote,
+            next: at + 1,
+        });
     }
+    Ok(Item::Close { next: at })
 }
 
 // The item at `at` of the token at `token`, which `quote` began.
-pub(crate) fn quoted_item(text: &[u8], at: usize, quote: u8, token: usize) -> Item
+pub(crate) fn quoted_item(text: &[u8], at: usize, quote: u8, token: usize) -> Result<Item, Fault>
     ensures { result ≡ quoted_item quote token text.now at }
 {
-    match lookahead_char(text, at) {
-        Look::Refused(fault) => Item::Refused(fault),
-        Look::Byte(b) => {
-            if b == b'\n' {
-                return bad_quoted(token);
-            }
-            if b == b'\t' {
-                return bad_quoted(token);
-            }
-            if b == b'\r' {
-                return bad_quoted(token);
-            }
-            if b == quote {
-                return after_quote(text, at + 1, quote);
-            }
-            if b == b'\\' {
-                return escape_sequence(text, at + 1, token);
-            }
-            Item::Char {
-                code: b,
-                next: at + 1,
-            }
-        }
+    let b = lookahead_char(text, at)?;
+    if b == b'\n' {
+        return bad_quoted(token);
     }
+    if b == b'\t' {
+        return bad_quoted(token);
+    }
+    if b == b'\r' {
+        return bad_quoted(token);
+    }
+    if b == quote {
+        return after_quote(text, at + 1, quote);
+    }
+    if b == b'\\' {
+        return escape_sequence(text, at + 1, token);
+    }
+    Ok(Item::Char {
+        code: b,
+        next: at + 1,
+    })
 }
 
 // How many bytes a quoted token stands for, and the cursor behind it.
 #[derive(Clone, Copy)]
-pub enum Measure {
-    Whole { length: usize, next: Cursor },
-    Refused(Fault),
+pub struct Measure {
+    pub length: usize,
+    pub next: Cursor,
 }
 
 // The cursor stands behind the opening quote of the token at `token`.
-pub(crate) fn measure_quoted(text: &[u8], cursor: Cursor, quote: u8, token: usize) -> Measure
+pub(crate) fn measure_quoted(
+    text: &[u8],
+    cursor: Cursor,
+    quote: u8,
+    token: usize,
+) -> Result<Measure, Fault>
     requires { Valid (length text.now) cursor }
     ensures { result ≡ measured text.now cursor (decode quote token text.now cursor.offset) }
 {
@@ -206,19 +192,18 @@ pub(crate) fn measure_quoted(text: &[u8], cursor: Cursor, quote: u8, token: usiz
         let at = stretch_end(text, c.offset, b' ', b'~', quote, b'\\');
         n += at - c.offset;
         c = skip_along(c, at);
-        match quoted_item(text, at, quote, token) {
-            Item::Refused(fault) => return Measure::Refused(fault),
+        match quoted_item(text, at, quote, token)? {
             Item::Close { next } => {
                 if beyond {
-                    return Measure::Refused(Fault {
+                    return Err(Fault {
                         refusal: Refusal::OutOfLimit,
                         offset: token,
                     });
                 }
-                return Measure::Whole {
+                return Ok(Measure {
                     length: n,
                     next: skip_along(c, next),
-                };
+                });
             }
             Item::Skip { next: _ } => {
                 c = skip_char(skip_char(c, b'\\'), b'\n');
@@ -249,9 +234,12 @@ pub(crate) fn write_quoted(
 {
     let mut at = from;
     let mut i: usize = 0;
+    // An item that is skipped writes nothing, so there are more turns than bytes: no `for` counts so.
     while i < n {
-        match quoted_item(text, at, quote, token) {
-            Item::Refused(_) => return,
+        let Ok(item) = quoted_item(text, at, quote, token) else {
+            return;
+        };
+        match item {
             Item::Beyond { next: _ } => return,
             Item::Close { next: _ } => return,
             Item::Skip { next } => {

@@ -2,24 +2,26 @@
 ghost use Rattle.std.specs.Prelude.{◌≡◌};
 ghost use Rattle.lexer.specs.Refusal.{number_of};
 
+use crate::cursor::Cursor;
+
 #[derive(Clone, Copy)]
 pub enum Refusal {
-    EndOfText,
-    UnclosedComment,
-    NoToken,
-    BadQuoted,
-    ForeignByte,
-    SetAside,
-    OutOfLimit,
-    NotValid,
-    NoRoom,
-    TooManyTokens,
-    NoReading,
-    NoText,
-    TooLong,
-    NoPack,
-    TokenTooLong,
-    UnknownVersion,
+    EndOfText = 1,
+    UnclosedComment = 2,
+    NoToken = 3,
+    BadQuoted = 4,
+    ForeignByte = 5,
+    SetAside = 6,
+    OutOfLimit = 7,
+    NotValid = 8,
+    NoRoom = 9,
+    TooManyTokens = 10,
+    NoReading = 11,
+    NoText = 12,
+    TooLong = 13,
+    NoPack = 14,
+    TokenTooLong = 15,
+    UnknownVersion = 18,
 }
 
 // A refusal, and the offset that it points at.
@@ -29,26 +31,16 @@ pub struct Fault {
     pub offset: usize,
 }
 
+// A refusal of a call, with the cursor that the caller gave.
+#[derive(Clone, Copy)]
+pub struct Refused {
+    pub fault: Fault,
+    pub cursor: Cursor,
+}
+
 // The number of a refusal.
 pub fn refusal_number(refusal: Refusal) -> u8
     ensures { result ≡ number_of refusal }
 {
-    match refusal {
-        Refusal::EndOfText => 1,
-        Refusal::UnclosedComment => 2,
-        Refusal::NoToken => 3,
-        Refusal::BadQuoted => 4,
-        Refusal::ForeignByte => 5,
-        Refusal::SetAside => 6,
-        Refusal::OutOfLimit => 7,
-        Refusal::NotValid => 8,
-        Refusal::NoRoom => 9,
-        Refusal::TooManyTokens => 10,
-        Refusal::NoReading => 11,
-        Refusal::NoText => 12,
-        Refusal::TooLong => 13,
-        Refusal::NoPack => 14,
-        Refusal::TokenTooLong => 15,
-        Refusal::UnknownVersion => 18,
-    }
+    refusal as u8
 }

@@ -2,14 +2,16 @@
 ghost use Rattle.std.specs.Prelude.{◌+◌, ◌≡◌, length};
 ghost use Rattle.lexer.specs.Cursor.{Valid};
 ghost use Rattle.lexer.specs.Quoted.{decode};
+ghost use Rattle.lexer.specs.Refusal.{fault};
+ghost use Rattle.lexer.specs.declared.refusal.Refusal.TheVariants.{NoRoom};
 ghost use Rattle.lexer.specs.Text.{leaves, counts, token_text, next_token_text, counted_text, quoted_text, seen, shown, Reads, Begins};
 ghost use Rattle.lexer.specs.declared.token.Spelling.{Spelling};
 
-use crate::chars::{Look, lookahead_char};
+use crate::chars::lookahead_char;
 use crate::cursor::{Cursor, is_valid};
-use crate::quoted::{Measure, measure_quoted, write_quoted};
-use crate::refusal::{Fault, Refusal};
-use crate::token::{Found, Source, Spelling, Token, not_valid, read_token, token_since};
+use crate::quoted::{measure_quoted, write_quoted};
+use crate::refusal::{Fault, Refusal, Refused};
+use crate::token::{Found, Source, Spelling, Token, no_token, not_valid, read_token, token_since};
 
 // A part of the source text, or of the scratch.
 #[derive(Clone, Copy)]
@@ -18,24 +20,22 @@ pub enum Part {
     Scratch { start: usize, end: usize },
 }
 
+// What the text call answers: a token, the cursor behind it, and its text.
 #[derive(Clone, Copy)]
-pub enum TextAnswer {
-    Read {
-        token: Token,
-        next: Cursor,
-        part: Part,
-    },
-    Refused {
-        fault: Fault,
-        cursor: Cursor,
-    },
+pub struct TextRead {
+    pub token: Token,
+    pub next: Cursor,
+    pub part: Part,
 }
 
-// How many bytes the quoted-text call wrote, or why none.
-#[derive(Clone, Copy)]
-pub enum QuotedAnswer {
-    Read { length: usize },
-    Refused { fault: Fault },
+// The bytes of the quoted token at `at` do not fit in the scratch.
+fn no_room(at: usize) -> Fault
+    ensures { result ≡ fault NoRoom at }
+{
+    Fault {
+        refusal: Refusal::NoRoom,
+        offset: at,
+    }
 }
 
 // A quoted token of `n` bytes: they are decoded to the front of the scratch.
@@ -46,26 +46,23 @@ fn decoded_text(
     n: usize,
     next: Cursor,
     scratch: &mut [u8],
-) -> TextAnswer
+) -> Result<TextRead, Refused>
     requires { Reads text.now cursor token (Spelling.Decoded n) next }
     ensures { leaves result scratch.new ≡ token_text text.now cursor scratch.old }
 {
     let start = token.start;
     if scratch.len() < n {
-        return TextAnswer::Refused {
-            fault: Fault {
-                refusal: Refusal::NoRoom,
-                offset: start,
-            },
+        return Err(Refused {
+            fault: no_room(start),
             cursor,
-        };
+        });
     }
     write_quoted(text, start + 1, text[start], start, n, scratch);
-    TextAnswer::Read {
+    Ok(TextRead {
         token,
         next,
         part: Part::Scratch { start: 0, end: n },
-    }
+    })
 }
 
 // The text of a token that was read, by its spelling.
@@ -76,44 +73,46 @@ fn token_text(
     spelling: Spelling,
     next: Cursor,
     scratch: &mut [u8],
-) -> TextAnswer
+) -> Result<TextRead, Refused>
     requires { Reads text.now cursor token spelling next }
     ensures { leaves result scratch.new ≡ token_text text.now cursor scratch.old }
 {
     match spelling {
-        Spelling::Absent => TextAnswer::Refused {
+        Spelling::Absent => Err(Refused {
             fault: Fault {
                 refusal: Refusal::NoText,
                 offset: token.start,
             },
             cursor,
-        },
-        Spelling::Source => TextAnswer::Read {
+        }),
+        Spelling::Source => Ok(TextRead {
             token,
             next,
             part: Part::Source {
                 start: token.start,
                 end: next.offset,
             },
-        },
+        }),
         Spelling::Decoded(n) => decoded_text(text, cursor, token, n, next, scratch),
     }
 }
 
 // The text of the token at a valid cursor.
-fn text_at(text: &[u8], cursor: Cursor, scratch: &mut [u8]) -> TextAnswer
+fn text_at(text: &[u8], cursor: Cursor, scratch: &mut [u8]) -> Result<TextRead, Refused>
     requires { Valid (length text.now) cursor }
     ensures { leaves result scratch.new ≡ token_text text.now cursor scratch.old }
 {
     match read_token(text, cursor, Source::File) {
-        Found::Refused(fault) => TextAnswer::Refused { fault, cursor },
-        Found::Whole {
-            offset,
-            token,
-            line,
-            spelling,
-            column,
-        } => token_text(
+        Err(fault) => Err(Refused { fault, cursor }),
+        Ok(
+            Found {
+                offset,
+                token,
+                line,
+                spelling,
+                column,
+            },
+        ) => token_text(
             text,
             cursor,
             token_since(token, cursor.offset),
@@ -129,20 +128,20 @@ fn text_at(text: &[u8], cursor: Cursor, scratch: &mut [u8]) -> TextAnswer
 }
 
 // The text call: a quoted item is decoded to the front of the scratch, which a refusal leaves as it was.
-pub fn next_token_text(text: &[u8], cursor: Cursor, scratch: &mut [u8]) -> TextAnswer
+pub fn next_token_text(text: &[u8], cursor: Cursor, scratch: &mut [u8]) -> Result<TextRead, Refused>
     ensures { leaves result scratch.new ≡ next_token_text text.now cursor scratch.old }
 {
     if is_valid(text.len(), cursor) {
         return text_at(text, cursor, scratch);
     }
-    TextAnswer::Refused {
+    Err(Refused {
         fault: not_valid(),
         cursor,
-    }
+    })
 }
 
 // The quoted token that `quote` begins at `start`: its bytes are decoded to the front of the scratch, where there is room.
-fn quoted_bytes(text: &[u8], start: usize, quote: u8, scratch: &mut [u8]) -> QuotedAnswer
+fn quoted_bytes(text: &[u8], start: usize, quote: u8, scratch: &mut [u8]) -> Result<usize, Fault>
     requires { Begins text.now start }
     ensures { counts result scratch.new ≡ counted_text start scratch.old (decode quote start text.now (start + 1)) }
 {
@@ -151,26 +150,17 @@ fn quoted_bytes(text: &[u8], start: usize, quote: u8, scratch: &mut [u8]) -> Quo
         line: 0,
         column: 0,
     };
-    match measure_quoted(text, inside, quote, start) {
-        Measure::Refused(fault) => QuotedAnswer::Refused { fault },
-        Measure::Whole { length, next: _ } => {
-            if scratch.len() < length {
-                return QuotedAnswer::Refused {
-                    fault: Fault {
-                        refusal: Refusal::NoRoom,
-                        offset: start,
-                    },
-                };
-            }
-            write_quoted(text, start + 1, quote, start, length, scratch);
-            QuotedAnswer::Read { length }
-        }
+    let length = measure_quoted(text, inside, quote, start)?.length;
+    if scratch.len() < length {
+        return Err(no_room(start));
     }
+    write_quoted(text, start + 1, quote, start, length, scratch);
+    Ok(length)
 }
 
 // The quoted-text call, for a caller who knows where a quoted token begins: its bytes are decoded to the front of the scratch, which a refusal
 // leaves as it was.
-pub fn quoted_text(text: &[u8], start: usize, scratch: &mut [u8]) -> QuotedAnswer
+pub fn quoted_text(text: &[u8], start: usize, scratch: &mut [u8]) -> Result<usize, Fault>
     ensures { counts result scratch.new ≡ quoted_text text.now start scratch.old }
 {
     let here = Cursor {
@@ -179,19 +169,12 @@ pub fn quoted_text(text: &[u8], start: usize, scratch: &mut [u8]) -> QuotedAnswe
         column: 0,
     };
     if !is_valid(text.len(), here) {
-        return QuotedAnswer::Refused { fault: not_valid() };
+        return Err(not_valid());
     }
-    match lookahead_char(text, start) {
-        Look::Refused(fault) => QuotedAnswer::Refused { fault },
-        Look::Byte(b) => match b {
-            b'\'' | b'"' => quoted_bytes(text, start, b, scratch),
-            _ => QuotedAnswer::Refused {
-                fault: Fault {
-                    refusal: Refusal::NoToken,
-                    offset: start,
-                },
-            },
-        },
+    let b = lookahead_char(text, start)?;
+    match b {
+        b'\'' | b'"' => quoted_bytes(text, start, b, scratch),
+        _ => Err(no_token(start)),
     }
 }
 

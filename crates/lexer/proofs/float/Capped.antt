@@ -7,10 +7,10 @@ use native.Mathlib.Nat.{le_refl, le_of_lt, min-eq_left, min-eq_right}
 use native.Mathlib.Omega.{arith}
 use Rattle.lexer.specs.Digits.{beyond}
 use Rattle.lexer.specs.Float.{scale_of, scale, float_value}
-use Rattle.lexer.specs.declared.float.Floated.TheVariants.{Beyond}
 use Rattle.lexer.proofs.float.Grid.{le_or_lt}
 use Rattle.lexer.proofs.float.Values.{many_digits, many_tens}
 use Rattle.lexer.proofs.float.Ways.{exponent-beyond, exponent_more}
+use Rattle.std.specs.declared.option.Option.TheVariants.{None}
 
 -- a text's length, so no token has more fraction digits
 abbrev pub most_digits : ℕ
@@ -24,11 +24,11 @@ stopped g a same n = elim (le_or_lt n beyond) [
 ]
 
 module _ (m : ℕ) (f : ℕ) (few : f ≤ most_digits) where
-  far : (minus : Bool) (x : ℕ) → beyond ≤ x → Beyond ≡ float_value m minus x f
+  far : (minus : Bool) (x : ℕ) → beyond ≤ x → None ≡ float_value m minus x f
   far true x h = exponent-beyond m true x f refl (omega arith)
-  far false x h = exponent_more m false x f refl Beyond (omega arith) (many_tens m (scale_of true (x - f)) (omega arith))
+  far false x h = exponent_more m false x f refl None (omega arith) (many_tens m (scale_of true (x - f)) (omega arith))
 
 pub float_capped : (m : ℕ) (minus : Bool) (x f : ℕ) → f ≤ most_digits → float_value (min m beyond) minus (min x beyond) f ≡ float_value m minus x f
 float_capped m minus x f few =
-    stopped (λ (n : ℕ). float_value n minus (min x beyond) f) Beyond (λ (n : ℕ) (h : beyond ≤ n). many_digits n (scale minus (min x beyond) f) (omega arith)) m
-    ∙ stopped (λ (n : ℕ). float_value m minus n f) Beyond (far m f few minus) x
+    stopped (λ (n : ℕ). float_value n minus (min x beyond) f) None (λ (n : ℕ) (h : beyond ≤ n). many_digits n (scale minus (min x beyond) f) (omega arith)) m
+    ∙ stopped (λ (n : ℕ). float_value m minus n f) None (far m f few minus) x

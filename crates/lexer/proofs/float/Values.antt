@@ -11,10 +11,10 @@ use lib.Pow.{pow-add}
 use lib.Ieee.{Float, nan, inf, fin, is_nan}
 use Rattle.lexer.specs.Float.{Scale, Limits, largest_digits, largest_tens, scale_of, scale, over, under, value, within_limits}
 use Rattle.lexer.specs.Nearest.{Nearest}
-use Rattle.lexer.specs.declared.float.Floated.TheVariants.{Value, Beyond}
 use Rattle.lexer.proofs.float.Grid.{le_or_lt}
 use Rattle.lexer.proofs.float.Doubles.{round-nearest, nearest_unique}
 use Rattle.lexer.proofs.float.Tens.{ten_pos}
+use Rattle.std.specs.declared.option.Option.TheVariants.{Some, None}
 
 -- ---- within the limits the value is nearest, and no other is
 
@@ -37,18 +37,18 @@ module _ (m : ℕ) (s : Scale) (h : Limits m s) where
 -- ---- beyond the limits and within them
 
 module _ (m : ℕ) (s : Scale) where
-  pub many_digits : largest_digits < m → Beyond ≡ within_limits m s
+  pub many_digits : largest_digits < m → None ≡ within_limits m s
   unfolding within_limits
   many_digits h = cc (lt-leb m largest_digits h)
 
-  pub many_tens : largest_tens < s.tens → Beyond ≡ within_limits m s
+  pub many_tens : largest_tens < s.tens → None ≡ within_limits m s
   unfolding within_limits
   many_tens l = elim (le_or_lt m largest_digits) [
     | inl h ↦ cc (le-leb m largest_digits h, lt-leb s.tens largest_tens l)
     | inr h ↦ many_digits h
   ]
 
-  pub inside : Limits m s → Value (value m s) ≡ within_limits m s
+  pub inside : Limits m s → Some (value m s) ≡ within_limits m s
   unfolding within_limits
   inside h = cc (le-leb m largest_digits h.digits, le-leb s.tens largest_tens h.power)
 
@@ -87,7 +87,7 @@ module _ (m x f : ℕ) where
 -- ---- document 01's sentence: the answer is a value v just where m and e are within the limits and v is the double nearest to m times ten to the e
 
 module _ (m : ℕ) (s : Scale) (v : Float) where
-  pub value_says : within_limits m s ≡ Value v → Limits m s × Nearest v (over m s) (under s)
+  pub value_says : within_limits m s ≡ Some v → Limits m s × Nearest v (over m s) (under s)
   value_says e = elim (le_or_lt m largest_digits) [
     | inl h ↦ elim (le_or_lt s.tens largest_tens) [
       | inl l ↦
@@ -100,14 +100,14 @@ module _ (m : ℕ) (s : Scale) (v : Float) where
     | inr h ↦ let i = many_digits m s h in let z : ◌≡◌ {A = ℕ} 0 1 = cc in absurd (omega arith)
   ]
 
-  pub says_value : Limits m s → Nearest v (over m s) (under s) → within_limits m s ≡ Value v
+  pub says_value : Limits m s → Nearest v (over m s) (under s) → within_limits m s ≡ Some v
   says_value t n =
       let i = inside m s t in
       let w = value_only m s t v n in
       cc
 
 -- for a caller that reads a value's bits
-pub value_no_nan : (m : ℕ) (s : Scale) (v : Float) → within_limits m s ≡ Value v → T (not (is_nan v))
+pub value_no_nan : (m : ℕ) (s : Scale) (v : Float) → within_limits m s ≡ Some v → T (not (is_nan v))
 unfolding is_nan
 value_no_nan m s nan e = absurd (value_says m s nan e).1.double
 value_no_nan m s (inf t) e = tt

@@ -10,8 +10,8 @@ use lib.Ieee.Back.{round_whole}
 use lib.Ieee.Exact.{HasValue}
 use Rattle.lexer.specs.Float.{Scale, Limits, Scaled, largest_digits, largest_tens, scale_of, over, under, value, within_limits, float_value}
 use Rattle.lexer.specs.Nearest.{Nearest}
-use Rattle.lexer.specs.declared.float.Floated.{Floated}
-use Rattle.lexer.specs.declared.float.Floated.TheVariants.{Value, Beyond}
+use Rattle.lexer.specs.Float.{Floated}
+use Rattle.std.specs.declared.option.Option.TheVariants.{Some, None}
 use Rattle.lexer.proofs.float.Tens.{tens, power_at, ten_pos, mul_at, div-at}
 use Rattle.lexer.proofs.float.Values.{value-nearest, many_tens, inside, scale-minus, scale-up, scale-down}
 
@@ -43,20 +43,20 @@ module _ (m : ℕ) (up : Bool) (k : ℕ) (h : Limits m (scale_of up k)) where
 
 -- ---- the way out of `within_limits` with a value
 
-pub value-inside : (m : ℕ) (s : Scale) (r : Float) → m ≤ largest_digits → s.tens ≤ largest_tens → Scaled m s r → Value r ≡ within_limits m s
+pub value-inside : (m : ℕ) (s : Scale) (r : Float) → m ≤ largest_digits → s.tens ≤ largest_tens → Scaled m s r → Some r ≡ within_limits m s
 value-inside m s r h l v = let i = inside m s (record { digits = h; power = l }) in cc
 
 -- ---- the ways out of `float_value`
 
 module _ (m : ℕ) (minus : Bool) (x f : ℕ) where
   module _ (e : minus ≡ true) where
-    sum_beyond : largest_tens < x + f → Beyond ≡ float_value m minus x f
+    sum_beyond : largest_tens < x + f → None ≡ float_value m minus x f
     sum_beyond h = many_tens m (scale_of false (x + f)) h ∙ ap (within_limits m) (sym (scale-minus minus x f e))
 
-    pub exponent-beyond : largest_tens < x → Beyond ≡ float_value m minus x f
+    pub exponent-beyond : largest_tens < x → None ≡ float_value m minus x f
     exponent-beyond h = sum_beyond (omega arith)
 
-    pub fraction-beyond : largest_tens < f → Beyond ≡ float_value m minus x f
+    pub fraction-beyond : largest_tens < f → None ≡ float_value m minus x f
     fraction-beyond h = sum_beyond (omega arith)
 
     pub both-down : (r : Floated) → r ≡ within_limits m (scale_of false (x + f)) → r ≡ float_value m minus x f

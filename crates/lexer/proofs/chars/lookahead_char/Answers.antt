@@ -7,19 +7,19 @@ use Rattle.lexer.specs.Refusal.{fault}
 use Rattle.lexer.specs.Look.{peek, needed, lookahead}
 use Rattle.lexer.specs.declared.refusal.Refusal.TheVariants.{EndOfText, ForeignByte}
 use Rattle.lexer.specs.declared.chars.Peek.{Peek}
-use Rattle.lexer.specs.declared.chars.Look.{Look}
+use Rattle.std.specs.declared.result.Result.TheVariants.{Ok, Err}
 use Rattle.lexer.proofs.chars.lookahead_char.Goals as goal
 
 module _ (s : List ℕ) (at : ℕ) (r : Peek) (e : r ≡ peek s at) where
-  byte : (b : ℕ) → r ≡ Peek.Byte b → Look.Byte b ≡ lookahead s at
+  byte : (b : ℕ) → r ≡ Peek.Byte b → Ok b ≡ lookahead s at
   unfolding needed
   byte b f = cc
 
-  foreign : r ≡ Peek.Foreign → Look.Refused (fault ForeignByte at) ≡ lookahead s at
+  foreign : r ≡ Peek.Foreign → Err (fault ForeignByte at) ≡ lookahead s at
   unfolding needed
   foreign f = cc
 
-  ended : r ≡ Peek.End → Look.Refused (fault EndOfText at) ≡ lookahead s at
+  ended : r ≡ Peek.End → Err (fault EndOfText at) ≡ lookahead s at
   unfolding needed
   ended f = cc
 

@@ -11,4 +11,4 @@ pub loop-at-preserved : goal.loop-at-preserved
 loop-at-preserved c = search ways
 
 pub returns : goal.returns
-returns c = search ways
+returns c = search (ways, c.loop-at.auto.at-end)

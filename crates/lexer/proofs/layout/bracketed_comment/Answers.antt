@@ -12,9 +12,11 @@ use Rattle.lexer.specs.Cursor.{move_to, along, Along}
 use Rattle.lexer.specs.Layout.{comment_text, comment_opened, bracketed_comment, moved, Opening, Inside}
 use Rattle.lexer.specs.Look.{lookahead}
 use Rattle.lexer.specs.declared.refusal.Fault.{Fault}
-use Rattle.lexer.specs.declared.chars.Look.{Look}
+use Rattle.lexer.specs.Look.{Look}
+use Rattle.std.specs.declared.result.Result.TheVariants.{Ok, Err}
 use Rattle.lexer.specs.declared.cursor.Cursor.{Cursor}
-use Rattle.lexer.specs.declared.cursor.Moved.{Moved}
+use Rattle.lexer.specs.Cursor.{Moved}
+use Rattle.lexer.proofs.HandedOn.{handed_on}
 use Rattle.lexer.proofs.Cursors.{NoNewline, plain_one, plain_both, can_move_along, move_along, move_offset, move_valid}
 use Rattle.lexer.proofs.Layouts.{bracketed_ends}
 use Rattle.lexer.proofs.Looks.{look_byte}
@@ -36,11 +38,11 @@ module _ (s : List ℕ) (c : Cursor) (w : Opening s c) where
       (rw m at (plain_one s (c.offset + 1) (λ n. omega arith)))
 
   module _ (r : Look) (e : r ≡ lookahead s (c.offset + 2)) where
-    refused : (f : Fault) → r ≡ Look.Refused f → Moved.Refused f ≡ moved s c (bracketed_comment s c.offset)
+    refused : (f : Fault) → r ≡ Err f → Err f ≡ moved s c (bracketed_comment s c.offset)
     unfolding comment_opened moved
     refused f q = cc
 
-    module _ (x : ℕ) (q : r ≡ Look.Byte x) where
+    module _ (x : ℕ) (q : r ≡ Ok x) where
       inside : c.offset + 2 < length s
       inside = (look_byte s (c.offset + 2) x (sym e ∙ q)).inside
 
@@ -67,16 +69,16 @@ module _ (s : List ℕ) (c : Cursor) (w : Opening s c) where
             let g = ap (λ (y : Cursor). moved s y (comment_text s c.offset)) there in
             cc
 
-ruleset ways = (mark-fits, refused, can_skip, behind-mark, read, rules)
+ruleset ways = (handed_on, mark-fits, refused, can_skip, behind-mark, read, rules)
 
-pub returns-in-Refused : goal.returns-in-Refused
-returns-in-Refused c = search ways
-
-pub returns-in-Byte : goal.returns-in-Byte
-returns-in-Byte c = search ways
+pub returns-in_err-lookahead_char : goal.returns-in_err-lookahead_char
+returns-in_err-lookahead_char c = search (ways, c.in_err-lookahead_char.was)
 
 pub skip_along-requires : goal.skip_along-requires
 skip_along-requires c = search ways
 
 pub comment_text-requires : goal.comment_text-requires
-comment_text-requires c = search ways
+comment_text-requires c = search (ways, c.in_ok-lookahead_char.was)
+
+pub returns : goal.returns
+returns c = search ways

@@ -17,8 +17,8 @@ use Rattle.lexer.specs.declared.refusal.Refusal.TheVariants.{UnclosedComment, Fo
 use Rattle.lexer.specs.declared.chars.Peek.{Peek}
 use Rattle.lexer.specs.declared.chars.Peek.TheVariants.{Byte, Foreign, End}
 use Rattle.lexer.specs.declared.cursor.Cursor.{Cursor}
-use Rattle.lexer.specs.declared.cursor.Moved.{Moved}
-use Rattle.lexer.specs.declared.cursor.Scan.{Scan}
+use Rattle.std.specs.declared.result.Result.TheVariants.{Ok, Err}
+use Rattle.lexer.specs.Cursor.{Scan}
 use Rattle.lexer.proofs.Cursors.{movable, step-valid, move_here, move_step}
 use Rattle.lexer.proofs.Looks.{Seen, peek_end, peek_byte, peek_foreign}
 use Rattle.lexer.proofs.Scans.{Between, wider, past_ends, past-along, moved-step}
@@ -84,11 +84,11 @@ module _ (s : List ℕ) (o : ℕ) (c₀ c : Cursor) (i : Outer s o c₀ c) (e : 
     pub there : r ≡ peek s c'.offset
     there = h ∙ ap (peek s) (sym way.offset)
 
-    pub ended : r ≡ End → Moved.Refused (fault UnclosedComment o) ≡ moved s c₀ (comment_text s o)
+    pub ended : r ≡ End → Err (fault UnclosedComment o) ≡ moved s c₀ (comment_text s o)
     unfolding past moved
     ended f = let l : length s ≤ c'.offset = peek_end s c'.offset (sym there ∙ f) in cc (same, drop_end s c'.offset l)
 
-    pub foreign : r ≡ Foreign → Moved.Refused (fault ForeignByte e) ≡ moved s c₀ (comment_text s o)
+    pub foreign : r ≡ Foreign → Err (fault ForeignByte e) ≡ moved s c₀ (comment_text s o)
     unfolding past moved
     foreign f = let l = peek_foreign s c'.offset (sym there ∙ f) in cc (same, way.offset)
 
@@ -196,14 +196,14 @@ module _ (s : List ℕ) (o : ℕ) (d c : Cursor) (j : Inner s o d c) (r : Peek) 
 
   -- as the comment from the start, at c₀
   module _ (c₀ : Cursor) (m : moved s c₀ (comment_text s o) ≡ moved s d (close s o (d.offset - 1))) where
-    pub ended-behind : r ≡ End → Moved.Refused (fault UnclosedComment o) ≡ moved s c₀ (comment_text s o)
+    pub ended-behind : r ≡ End → Err (fault UnclosedComment o) ≡ moved s c₀ (comment_text s o)
     unfolding past moved
     ended-behind f =
         let l : length s ≤ j.k + 1 = peek_end s (j.k + 1) (sym next_there ∙ f) in
         let x = j.seen in
         cc (drop_end s (j.k + 1) l)
 
-    pub foreign_behind : r ≡ Foreign → Moved.Refused (fault ForeignByte c.offset) ≡ moved s c₀ (comment_text s o)
+    pub foreign_behind : r ≡ Foreign → Err (fault ForeignByte c.offset) ≡ moved s c₀ (comment_text s o)
     unfolding past moved
     foreign_behind f =
         let l = peek_foreign s (j.k + 1) (sym next_there ∙ f) in
@@ -212,7 +212,7 @@ module _ (s : List ℕ) (o : ℕ) (d c : Cursor) (j : Inner s o d c) (r : Peek) 
         cc
 
     module _ (b : ℕ) (f : r ≡ Byte b) (c' : Cursor) (q : c' ≡ step c b) where
-      pub closed : b ≡ slash → Moved.To c' ≡ moved s c₀ (comment_text s o)
+      pub closed : b ≡ slash → Ok c' ≡ moved s c₀ (comment_text s o)
       unfolding past moved
       closed n =
           let l = seen-behind b f in

@@ -18,8 +18,8 @@ use Rattle.lexer.specs.declared.refusal.Refusal.TheVariants.{ForeignByte}
 use Rattle.lexer.specs.declared.chars.Peek.{Peek}
 use Rattle.lexer.specs.declared.chars.Peek.TheVariants.{Byte, Foreign, End}
 use Rattle.lexer.specs.declared.cursor.Cursor.{Cursor}
-use Rattle.lexer.specs.declared.cursor.Moved.{Moved}
-use Rattle.lexer.specs.declared.cursor.Scan.TheVariants.{Stop}
+use Rattle.lexer.specs.Cursor.{Moved}
+use Rattle.std.specs.declared.result.Result.TheVariants.{Ok, Err}
 use Rattle.lexer.proofs.Cursors.{movable, step-valid, move_here, move_step}
 use Rattle.lexer.proofs.Looks.{Seen, peek_end, peek_byte, peek_foreign}
 use Rattle.lexer.proofs.Scans.{Between, past_ends, past-along, moved-step}
@@ -36,7 +36,7 @@ pub record Inv (s : List ℕ) (c₀ c : Cursor) : Type 0 where
   pub valid : Valid (length s) c
 
 pub ends : (s : List ℕ) (at : ℕ) → at ≤ length s → Between at (length s) (single_line_comment s at)
-ends s at h = rw (add-zero at) at (past_ends (newline ∷ []) Stop 0 (omega arith) (λ (n : ℕ). omega arith) s at h)
+ends s at h = rw (add-zero at) at (past_ends (newline ∷ []) Ok 0 (omega arith) (λ (n : ℕ). omega arith) s at h)
 
 -- no plain byte is a newline
 pub apart : (x : ℕ) (ys : List ℕ) → InStretch space 126 0 0 x → begins_with (newline ∷ []) (x ∷ ys) ≡ false
@@ -53,18 +53,18 @@ module _ (s : List ℕ) (c₀ c : Cursor) (i : Inv s c₀ c) (e : ℕ) (g : e �
     way = passed space 126 0 0 (omega arith) (omega arith) s c i.valid e g c' o
 
     pub same : from s c₀ ≡ from s c'
-    same = i.same ∙ past-along (newline ∷ []) Stop s 0 0 apart c e g c' way (ends s e way.inside)
+    same = i.same ∙ past-along (newline ∷ []) Ok s 0 0 apart c e g c' way (ends s e way.inside)
 
     pub there : r ≡ peek s c'.offset
     there = h ∙ ap (peek s) (sym way.offset)
 
-    pub ended : r ≡ End → Moved.To c' ≡ from s c₀
+    pub ended : r ≡ End → Ok c' ≡ from s c₀
     unfolding past moved
     ended f =
         let l : length s ≤ c'.offset = peek_end s c'.offset (sym there ∙ f) in
         cc (same, drop_end s c'.offset l, move_here s c')
 
-    pub foreign : r ≡ Foreign → Moved.Refused (fault ForeignByte e) ≡ from s c₀
+    pub foreign : r ≡ Foreign → Err (fault ForeignByte e) ≡ from s c₀
     unfolding past moved
     foreign f = let l = peek_foreign s c'.offset (sym there ∙ f) in cc (same, way.offset)
 
@@ -76,7 +76,7 @@ module _ (s : List ℕ) (c₀ c : Cursor) (i : Inv s c₀ c) (e : ℕ) (g : e �
       can_skip = movable (length s) c' way.valid seen.inside
 
       module _ (d : Cursor) (q : d ≡ step c' b) where
-        pub closed : b ≡ newline → Moved.To d ≡ from s c₀
+        pub closed : b ≡ newline → Ok d ≡ from s c₀
         unfolding past moved
         closed n =
             let l = seen in

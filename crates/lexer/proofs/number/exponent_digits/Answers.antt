@@ -13,23 +13,25 @@ use Rattle.lexer.specs.declared.refusal.Refusal.TheVariants.{ForeignByte}
 use Rattle.lexer.specs.declared.chars.Peek.{Peek}
 use Rattle.lexer.specs.declared.chars.Peek.TheVariants.{Byte, Foreign, End}
 use Rattle.lexer.specs.declared.digits.Digits.{Digits}
-use Rattle.lexer.specs.declared.number.Exponent.TheVariants.{Whole, Partial, Refused}
+use Rattle.lexer.specs.declared.number.Exponent.TheVariants.{Whole, Partial}
+use Rattle.lexer.proofs.HandedOn.{handed_on}
 use Rattle.lexer.proofs.number.exponent_digits.Goals as goal
+use Rattle.std.specs.declared.result.Result.TheVariants.{Ok, Err}
 
 module _ (s : List ℕ) (at : ℕ) (sign : Bool) (d : Digits) (p : Peek) (e : d ≡ held (digits_at 10 0 s at)) (q : p ≡ peek s d.end) where
-  ended : p ≡ End → Partial sign d.value d.end ≡ held_exponent (exponent_digits s sign at)
+  ended : p ≡ End → Ok (Partial sign d.value d.end) ≡ held_exponent (exponent_digits s sign at)
   unfolding exponent_ends held_exponent
   ended f = cc
 
-  foreign : (w : Fault) → p ≡ Foreign → w ≡ fault ForeignByte d.end → Refused w ≡ held_exponent (exponent_digits s sign at)
+  foreign : (w : Fault) → p ≡ Foreign → w ≡ fault ForeignByte d.end → Err w ≡ held_exponent (exponent_digits s sign at)
   unfolding exponent_ends held_exponent
   foreign w f g = cc
 
-  byte : (b : ℕ) → p ≡ Byte b → Whole sign d.value d.end ≡ held_exponent (exponent_digits s sign at)
+  byte : (b : ℕ) → p ≡ Byte b → Ok (Whole sign d.value d.end) ≡ held_exponent (exponent_digits s sign at)
   unfolding exponent_ends held_exponent
   byte b f = cc
 
-ruleset ways = (ended, foreign, byte, rules)
+ruleset ways = (handed_on, ended, foreign, byte, rules)
 
 pub returns-in-Foreign : goal.returns-in-Foreign
 returns-in-Foreign c = search ways

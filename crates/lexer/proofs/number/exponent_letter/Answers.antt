@@ -7,27 +7,28 @@ use borrow.Author.Rules.{rules}
 use borrow.Author.Tests.{ne_eqb}
 use Rattle.lexer.specs.Chars.{plus, minus}
 use Rattle.lexer.specs.Look.{peek}
-use Rattle.lexer.specs.Number.{letter_to, sign_to, held_exponent}
+use Rattle.lexer.specs.Number.{letter_to, sign_to, held_exponent, ExponentRead}
 use Rattle.lexer.specs.Refusal.{fault}
 use Rattle.lexer.specs.declared.refusal.Fault.{Fault}
 use Rattle.lexer.specs.declared.refusal.Refusal.TheVariants.{ForeignByte}
 use Rattle.lexer.specs.declared.chars.Peek.{Peek}
 use Rattle.lexer.specs.declared.chars.Peek.TheVariants.{Byte, Foreign, End}
-use Rattle.lexer.specs.declared.number.Exponent.{Exponent}
-use Rattle.lexer.specs.declared.number.Exponent.TheVariants.{Absent, Refused}
+use Rattle.lexer.specs.declared.number.Exponent.TheVariants.{Absent}
+use Rattle.lexer.proofs.HandedOn.{handed_on}
 use Rattle.lexer.proofs.Looks.{peek-fits}
 use Rattle.lexer.proofs.number.exponent_letter.Goals as goal
+use Rattle.std.specs.declared.result.Result.TheVariants.{Ok, Err}
 
 module _ (s : List ℕ) (at : ℕ) (p : Peek) (q : p ≡ peek s at) where
-  ended : p ≡ End → Absent ≡ held_exponent (letter_to s at (peek s at))
+  ended : p ≡ End → (Ok Absent) ≡ held_exponent (letter_to s at (peek s at))
   unfolding letter_to held_exponent
   ended f = cc
 
-  foreign : (w : Fault) → p ≡ Foreign → w ≡ fault ForeignByte at → Refused w ≡ held_exponent (letter_to s at (peek s at))
+  foreign : (w : Fault) → p ≡ Foreign → w ≡ fault ForeignByte at → Err w ≡ held_exponent (letter_to s at (peek s at))
   unfolding letter_to held_exponent
   foreign w f g = cc
 
-  module _ (b : ℕ) (r : Exponent) (f : p ≡ Byte b) where
+  module _ (b : ℕ) (r : ExponentRead) (f : p ≡ Byte b) where
     positive : b ≡ plus → r ≡ held_exponent (sign_to s false (at + 1) (peek s (at + 1))) → r ≡ held_exponent (letter_to s at (peek s at))
     unfolding letter_to
     positive g h = cc
@@ -40,7 +41,13 @@ module _ (s : List ℕ) (at : ℕ) (p : Peek) (q : p ≡ peek s at) where
     unfolding letter_to
     unsigned g h k = cc (ne_eqb b plus g, ne_eqb b minus h)
 
-ruleset ways = (ended, foreign, positive, negative, unsigned, peek-fits, rules)
+ruleset ways = (handed_on, ended, foreign, positive, negative, unsigned, peek-fits, rules)
+
+pub overflow_add-at : goal.overflow_add-at
+overflow_add-at c = search ways
+
+pub overflow_add-at-in-45 : goal.overflow_add-at-in-45
+overflow_add-at-in-45 c = search ways
 
 pub returns-in-End : goal.returns-in-End
 returns-in-End c = search ways
@@ -56,9 +63,3 @@ returns-in-45 c = search ways
 
 pub returns-in_default : goal.returns-in_default
 returns-in_default c = search ways
-
-pub overflow_add-at : goal.overflow_add-at
-overflow_add-at c = search ways
-
-pub overflow_add-at-in-45 : goal.overflow_add-at-in-45
-overflow_add-at-in-45 c = search ways

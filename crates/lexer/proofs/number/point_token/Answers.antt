@@ -7,7 +7,7 @@ use borrow.Author.Rules.{rules}
 use borrow.Author.Tests.{lt-ltb, le-ltb}
 use Rattle.lexer.specs.Digits.{digit_of}
 use Rattle.lexer.specs.Look.{peek}
-use Rattle.lexer.specs.Number.{point_to, fraction, held_numeral, held_number, Read}
+use Rattle.lexer.specs.Number.{point_to, fraction, held_numeral, held_number, Read, NumberRead}
 use Rattle.lexer.specs.Refusal.{fault}
 use Rattle.lexer.specs.declared.refusal.Fault.{Fault}
 use Rattle.lexer.specs.declared.refusal.Refusal.TheVariants.{ForeignByte}
@@ -15,17 +15,18 @@ use Rattle.lexer.specs.declared.chars.Peek.{Peek}
 use Rattle.lexer.specs.declared.chars.Peek.TheVariants.{Byte, Foreign, End}
 use Rattle.lexer.specs.declared.digits.Digits.{Digits}
 use Rattle.lexer.specs.declared.number.Numeral.TheVariants.{Integer}
-use Rattle.lexer.specs.declared.number.NumberToken.{NumberToken}
-use Rattle.lexer.specs.declared.number.NumberToken.TheVariants.{Whole, Refused}
+use Rattle.lexer.specs.declared.number.NumberToken.TheVariants.{Whole}
+use Rattle.lexer.proofs.HandedOn.{handed_on}
 use Rattle.lexer.proofs.number.point_token.Goals as goal
+use Rattle.std.specs.declared.result.Result.TheVariants.{Ok, Err}
 
 module _ (s : List ℕ) (d : Digits) (h : Read s d) (p : Peek) (q : p ≡ peek s (d.end + 1)) where
-  foreign : (w : Fault) → p ≡ Foreign → w ≡ fault ForeignByte (d.end + 1) → Refused w ≡ held_number (point_to s d (peek s (d.end + 1)))
+  foreign : (w : Fault) → p ≡ Foreign → w ≡ fault ForeignByte (d.end + 1) → Err w ≡ held_number (point_to s d (peek s (d.end + 1)))
   unfolding point_to held_number
   foreign w f g = cc
 
-  module _ (t : NumberToken) where
-    ended : p ≡ End → t ≡ Whole (Integer d.value) d.end → t ≡ held_number (point_to s d (peek s (d.end + 1)))
+  module _ (t : NumberRead) where
+    ended : p ≡ End → t ≡ Ok (Whole (Integer d.value) d.end) → t ≡ held_number (point_to s d (peek s (d.end + 1)))
     unfolding point_to held_number held_numeral
     ended f g = cc (min-eq_left h.small)
 
@@ -34,11 +35,11 @@ module _ (s : List ℕ) (d : Digits) (h : Read s d) (p : Peek) (q : p ≡ peek s
       unfolding point_to
       digit i e = cc (lt-ltb k 10 i)
 
-      none : 10 ≤ k → t ≡ Whole (Integer d.value) d.end → t ≡ held_number (point_to s d (peek s (d.end + 1)))
+      none : 10 ≤ k → t ≡ Ok (Whole (Integer d.value) d.end) → t ≡ held_number (point_to s d (peek s (d.end + 1)))
       unfolding point_to held_number held_numeral
       none i e = cc (le-ltb k 10 i, min-eq_left h.small)
 
-ruleset ways = (ended, foreign, digit, none, rules)
+ruleset ways = (handed_on, ended, foreign, digit, none, rules)
 
 pub returns-then-digit-lt10 : goal.returns-then-digit-lt10
 returns-then-digit-lt10 c = search ways

@@ -6,18 +6,19 @@ use borrow.Author.Tests.{ne_eqb, le-leb, lt-leb}
 use Rattle.lexer.specs.Quoted.{coded}
 use Rattle.lexer.specs.declared.quoted.Item.TheVariants.{Char, Beyond}
 use Rattle.lexer.proofs.quoted.code_char.Goals as goal
+use Rattle.std.specs.declared.result.Result.TheVariants.{Ok}
 
 module _ (n next : ℕ) where
-  nul : n ≡ 0 → Beyond next ≡ coded n next
+  nul : n ≡ 0 → Ok (Beyond next) ≡ coded n next
   unfolding coded
   nul f = cc
 
   module _ (f : n ≡ 0 → ⊥) where
-    large : 127 < n → Beyond next ≡ coded n next
+    large : 127 < n → Ok (Beyond next) ≡ coded n next
     unfolding coded
     large g = cc (ne_eqb n 0 f, lt-leb n 127 g)
 
-    char : n ≤ 127 → Char n next ≡ coded n next
+    char : n ≤ 127 → Ok (Char n next) ≡ coded n next
     unfolding coded
     char g = cc (ne_eqb n 0 f, le-leb n 127 g)
 

@@ -9,14 +9,14 @@ use borrow.Author.Tests.{eq-eqb, ne_eqb, lt-leb}
 use Rattle.lexer.specs.Chars.{backslash}
 use Rattle.lexer.specs.Digits.{digits_at, held, beyond}
 use Rattle.lexer.specs.Look.{lookahead}
-use Rattle.lexer.specs.Quoted.{coded, closed, numeric_escape}
+use Rattle.lexer.specs.Quoted.{coded, closed, numeric_escape, QuotedItem}
 use Rattle.lexer.specs.Refusal.{fault}
-use Rattle.lexer.specs.declared.chars.Look.{Look}
+use Rattle.lexer.specs.Look.{Look}
+use Rattle.std.specs.declared.result.Result.TheVariants.{Ok, Err}
 use Rattle.lexer.specs.declared.digits.Digits.{Digits}
-use Rattle.lexer.specs.declared.quoted.Item.{Item}
-use Rattle.lexer.specs.declared.quoted.Item.TheVariants.{Refused}
 use Rattle.lexer.specs.declared.refusal.Fault.{Fault}
 use Rattle.lexer.specs.declared.refusal.Refusal.TheVariants.{BadQuoted}
+use Rattle.lexer.proofs.HandedOn.{handed_on}
 use Rattle.lexer.proofs.Looks.{look_fits}
 use Rattle.lexer.proofs.quoted.escape_sequence_to_char.Goals as goal
 
@@ -34,17 +34,17 @@ coded-held v next = go (dec_le v 127)
     go (no h) = large (min v beyond) v next (omega arith) (omega arith)
 
 module _ (s : List ℕ) (at base token : ℕ) (d : Digits) (e : d ≡ held (digits_at base 0 s at)) (r : Look) (f : r ≡ lookahead s d.end) where
-  refuse : (w : Fault) → r ≡ Look.Refused w → Refused w ≡ numeric_escape base token s at
+  refuse : (w : Fault) → r ≡ Err w → Err w ≡ numeric_escape base token s at
   unfolding closed
   refuse w g = cc
 
-  module _ (b : ℕ) (i : Item) (g : r ≡ Look.Byte b) where
-    unclosed : (b ≡ backslash → ⊥) → i ≡ Refused (fault BadQuoted token) → i ≡ numeric_escape base token s at
+  module _ (b : ℕ) (i : QuotedItem) (g : r ≡ Ok b) where
+    unclosed : (b ≡ backslash → ⊥) → i ≡ Err (fault BadQuoted token) → i ≡ numeric_escape base token s at
     unfolding closed
     unclosed h j = cc (ne_eqb b backslash h)
 
     module _ (h : b ≡ backslash) where
-      empty : d.end ≡ at → i ≡ Refused (fault BadQuoted token) → i ≡ numeric_escape base token s at
+      empty : d.end ≡ at → i ≡ Err (fault BadQuoted token) → i ≡ numeric_escape base token s at
       unfolding closed
       empty k j = cc (eq-eqb d.end at k)
 
@@ -52,19 +52,19 @@ module _ (s : List ℕ) (at base token : ℕ) (d : Digits) (e : d ≡ held (digi
       unfolding closed
       code k j = cc (ne_eqb d.end at k, coded-held (digits_at base 0 s at).value (d.end + 1))
 
-ruleset ways = (refuse, unclosed, empty, code, look_fits, rules)
+ruleset ways = (handed_on, refuse, unclosed, empty, code, look_fits, rules)
 
-pub returns-then-b-ne92 : goal.returns-then-b-ne92
-returns-then-b-ne92 c = search ways
+pub returns-in_err-lookahead_char : goal.returns-in_err-lookahead_char
+returns-in_err-lookahead_char c = search (ways, c.in_err-lookahead_char.was)
+
+pub returns-then-branch-ne92 : goal.returns-then-branch-ne92
+returns-then-branch-ne92 c = search ways
 
 pub returns-then-end-at : goal.returns-then-end-at
 returns-then-end-at c = search ways
 
-pub returns-in-Refused : goal.returns-in-Refused
-returns-in-Refused c = search ways
-
-pub returns-else-end-at : goal.returns-else-end-at
-returns-else-end-at c = search ways
-
 pub overflow_add-end : goal.overflow_add-end
 overflow_add-end c = search ways
+
+pub returns : goal.returns
+returns c = search ways

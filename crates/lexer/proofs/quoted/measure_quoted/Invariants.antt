@@ -10,13 +10,11 @@ use mir.Val.{Fits}
 use lib.ListN.{length, get_or}
 use Rattle.lexer.specs.Chars.{newline, space, backslash}
 use Rattle.lexer.specs.Cursor.{step, move_to, along, Valid, Movable, Along}
-use Rattle.lexer.specs.Quoted.{quoted_item, Quoted, whole, refused, with_char, out_of_limit, decode, measured}
+use Rattle.lexer.specs.Quoted.{quoted_item, Quoted, whole, refused, with_char, out_of_limit, decode, measured, MeasureRead, QuotedItem, measure}
 use Rattle.lexer.specs.Refusal.{fault}
 use Rattle.lexer.specs.Stretch.{in_stretch, stretch_end}
 use Rattle.lexer.specs.declared.cursor.Cursor.{Cursor}
-use Rattle.lexer.specs.declared.quoted.Item.{Item}
-use Rattle.lexer.specs.declared.quoted.Item.TheVariants.{Char, Beyond, Skip, Close, Refused}
-use Rattle.lexer.specs.declared.quoted.Measure.{Measure}
+use Rattle.lexer.specs.declared.quoted.Item.TheVariants.{Char, Beyond, Skip, Close}
 use Rattle.lexer.specs.declared.refusal.Fault.{Fault}
 use Rattle.lexer.specs.declared.refusal.Refusal.TheVariants.{OutOfLimit}
 use Rattle.lexer.proofs.Cursors.{movable, step-valid, can_move_along, move_here, move_step, move_offset, move_valid, move_by, move_along}
@@ -24,12 +22,14 @@ use Rattle.lexer.proofs.Spans.{Span, Plain}
 use Rattle.lexer.proofs.QuotedItems.{Continued, ordinary_char, char_ends, beyond_ends, skip_ends, close_ends, decode_ends, decode-refused, decode-close, decode_skip, decode-beyond, decode_char}
 use Rattle.lexer.proofs.Stretches.{Passed, can_pass, passed, stretch_carry}
 use Rattle.lexer.proofs.quoted.measure_quoted.Given as goal
+use Rattle.lexer.specs.declared.quoted.Item.{Item}
+use Rattle.std.specs.declared.result.Result.TheVariants.{Ok, Err}
 
 module _ (token : ℕ) (s : List ℕ) where
   -- the measure of a token: n bytes of it, `beyond` where one was out of limit, lie before c, and d is the rest
-  unfoldable pub resumed : ℕ → Bool → Cursor → Quoted → Measure
-  resumed n beyond c (whole bs e) = cond beyond (Measure.Refused (fault OutOfLimit token)) (Measure.Whole (n + length bs) (move_to s c e))
-  resumed n beyond c (refused w) = Measure.Refused w
+  unfoldable pub resumed : ℕ → Bool → Cursor → Quoted → MeasureRead
+  resumed n beyond c (whole bs e) = cond beyond (Err (fault OutOfLimit token)) (measure (n + length bs) (move_to s c e))
+  resumed n beyond c (refused w) = Err w
 
   pub start : (c : Cursor) (d : Quoted) → measured s c d ≡ resumed 0 false c d
   unfolding measured resumed
@@ -115,10 +115,10 @@ module _ (s : List ℕ) (q token : ℕ) (c₀ c : Cursor) (n : ℕ) (beyond : Bo
       pub behind_inv : Inv s q token c₀ d (n + (at - c.offset)) beyond
       behind_inv = let w = behind in onward at w.ahead w.inside d w.there (n + (at - c.offset)) beyond counted.same (omega arith)
 
--- the ways out of a turn that starts at c₁ with n₁: c is the cursor behind the stretch, r the item there. All premises stand here, since
+-- the ways out of a turn that starts at c₁ with n₁: c is the cursor behind the stretch, r the item at `at`. All premises stand here, since
 -- `search` meets them as hypotheses: it does not find the invariant behind the stretch by a law of its own
-module _ (s : List ℕ) (q token : ℕ) (c₀ c₁ : Cursor) (n₁ : ℕ) (beyond : Bool) (at : ℕ) (c : Cursor) (r : Item) (i₁ : Inv s q token c₀ c₁ n₁ beyond)
-    (a : at ≡ stretch_end space 126 q backslash s c₁.offset) (o₁ : c ≡ along c₁ (at - c₁.offset)) (f : r ≡ quoted_item q token s at) where
+module _ (s : List ℕ) (q token : ℕ) (c₀ c₁ : Cursor) (n₁ : ℕ) (beyond : Bool) (at : ℕ) (c : Cursor) (i₁ : Inv s q token c₀ c₁ n₁ beyond)
+    (a : at ≡ stretch_end space 126 q backslash s c₁.offset) (o₁ : c ≡ along c₁ (at - c₁.offset)) where
   abbrev pub n : ℕ
   n = n₁ + (at - c₁.offset)
 
@@ -129,12 +129,12 @@ module _ (s : List ℕ) (q token : ℕ) (c₀ c₁ : Cursor) (n₁ : ℕ) (beyon
   pub i : Inv s q token c₀ c n beyond
   i = behind_inv s q token c₀ c₁ n₁ beyond i₁ at a c o₁
 
-  pub item : quoted_item q token s c.offset ≡ r
-  item = ap (quoted_item q token s) p₁.offset ∙ sym f
+  pub item : quoted_item q token s c.offset ≡ quoted_item q token s at
+  item = ap (quoted_item q token s) p₁.offset
 
-  pub refuse : (w : Fault) → r ≡ Refused w → Measure.Refused w ≡ measured s c₀ (decode q token s c₀.offset)
+  pub refuse : (w : Fault) → Err w ≡ quoted_item q token s at → Err w ≡ measured s c₀ (decode q token s c₀.offset)
   unfolding resumed
-  refuse w g = sym (i.same ∙ ap (resumed token s n beyond c) (decode-refused q token s c.offset w (item ∙ g)))
+  refuse w g = sym (i.same ∙ ap (resumed token s n beyond c) (decode-refused q token s c.offset w (item ∙ sym g)))
 
   -- a turn that moves the cursor to e
   module _ (e : ℕ) (p : Span s c.offset e) (d : Cursor) (o : d ≡ move_to s c e) where
@@ -165,28 +165,28 @@ module _ (s : List ℕ) (q token : ℕ) (c₀ c₁ : Cursor) (n₁ : ℕ) (beyon
       ∙ move_step s (step c backslash) e (omega arith) p.span.inside ∙ ap (λ (x : ℕ). move_to s (step (step c backslash) x) e) p.second
       ∙ ap (move_to s (step (step c backslash) newline)) k ∙ move_here s (step (step c backslash) newline))
 
-  module _ (e : ℕ) where
+  module _ (r : Item) (f : Ok r ≡ quoted_item q token s at) (e : ℕ) where
     module _ (g : r ≡ Close e) where
       pub closing : Plain s c.offset e
-      closing = (close_ends q s c.offset token e (item ∙ g)).whole
+      closing = (close_ends q s c.offset token e (item ∙ sym f ∙ ap Ok g)).whole
 
       pub closed : measured s c₀ (decode q token s c₀.offset) ≡ resumed token s n beyond c (whole [] e)
-      closed = i.same ∙ ap (resumed token s n beyond c) (decode-close q token s c.offset e (item ∙ g))
+      closed = i.same ∙ ap (resumed token s n beyond c) (decode-close q token s c.offset e (item ∙ sym f ∙ ap Ok g))
 
       pub close-along : Along c e
       close-along = along-line e closing
 
-      pub out : beyond ≡ true → Measure.Refused (fault OutOfLimit token) ≡ measured s c₀ (decode q token s c₀.offset)
+      pub out : beyond ≡ true → Err (fault OutOfLimit token) ≡ measured s c₀ (decode q token s c₀.offset)
       unfolding resumed
       out h = cc closed
 
-      pub done : (d : Cursor) → beyond ≡ false → d ≡ along c (e - c.offset) → Measure.Whole n d ≡ measured s c₀ (decode q token s c₀.offset)
+      pub done : (d : Cursor) → beyond ≡ false → d ≡ along c (e - c.offset) → measure n d ≡ measured s c₀ (decode q token s c₀.offset)
       unfolding resumed
       done d h o = let k : n + 0 ≡ n = omega arith in cc (closed, line e closing d o)
 
     module _ (g : r ≡ Skip e) where
       pub continued : Continued s c.offset e
-      continued = skip_ends q s c.offset token e (item ∙ g)
+      continued = skip_ends q s c.offset token e (item ∙ sym f ∙ ap Ok g)
 
       pub skip_first : Movable c
       skip_first = let p = continued in movable (length s) c i.valid (omega arith)
@@ -202,14 +202,14 @@ module _ (s : List ℕ) (q token : ℕ) (c₀ c₁ : Cursor) (n₁ : ℕ) (beyon
           past = cc (lines e continued)
 
           pub skip : Inv s q token c₀ d₂ n beyond
-          skip = turn e continued.span d₂ past n beyond (λ y. y) (decode_skip q token s c.offset e (item ∙ g)) (λ y. refl) (omega arith)
+          skip = turn e continued.span d₂ past n beyond (λ y. y) (decode_skip q token s c.offset e (item ∙ sym f ∙ ap Ok g)) (λ y. refl) (omega arith)
 
           pub skip_less : length s - d₂.offset < length s - c₁.offset
           skip_less = less e continued.span d₂ past
 
     module _ (b : ℕ) (g : r ≡ Char b e) where
       pub char_plain : Plain s c.offset e
-      char_plain = char_ends q s c.offset token e b (item ∙ g)
+      char_plain = char_ends q s c.offset token e b (item ∙ sym f ∙ ap Ok g)
 
       pub char_along : Along c e
       char_along = along-line e char_plain
@@ -221,14 +221,14 @@ module _ (s : List ℕ) (q token : ℕ) (c₀ c₁ : Cursor) (n₁ : ℕ) (beyon
         pub char : Inv s q token c₀ d (n + 1) beyond
         char =
             turn e char_plain.span d (line e char_plain d o) (n + 1) beyond
-            (with_char b) (decode_char q token s c.offset e b (item ∙ g)) (more token s n beyond c b) (omega arith)
+            (with_char b) (decode_char q token s c.offset e b (item ∙ sym f ∙ ap Ok g)) (more token s n beyond c b) (omega arith)
 
         pub char_less : length s - d.offset < length s - c₁.offset
         char_less = less e char_plain.span d (line e char_plain d o)
 
     module _ (g : r ≡ Beyond e) where
       pub beyond_plain : Plain s c.offset e
-      beyond_plain = beyond_ends q s c.offset token e (item ∙ g)
+      beyond_plain = beyond_ends q s c.offset token e (item ∙ sym f ∙ ap Ok g)
 
       pub beyond-along : Along c e
       beyond-along = along-line e beyond_plain
@@ -237,13 +237,13 @@ module _ (s : List ℕ) (q token : ℕ) (c₀ c₁ : Cursor) (n₁ : ℕ) (beyon
         pub out-of-limit : Inv s q token c₀ d n true
         out-of-limit =
             turn e beyond_plain.span d (line e beyond_plain d o) n true
-            (out_of_limit token) (decode-beyond q token s c.offset e (item ∙ g)) (limit token s n beyond c) (omega arith)
+            (out_of_limit token) (decode-beyond q token s c.offset e (item ∙ sym f ∙ ap Ok g)) (limit token s n beyond c) (omega arith)
 
         pub beyond_less : length s - d.offset < length s - c₁.offset
         beyond_less = less e beyond_plain.span d (line e beyond_plain d o)
 
-abbrev pub invariant-loop-fault : goal.invariant-loop-fault
-invariant-loop-fault l = Inv l.text l.quote l.token l.initial.c l.c l.n l.beyond
+abbrev pub invariant-loop-next : goal.invariant-loop-next
+invariant-loop-next l = Inv l.text l.quote l.token l.initial.c l.c l.n l.beyond
 
-abbrev pub decreases-loop-fault : goal.decreases-loop-fault
-decreases-loop-fault l = length l.text - l.c.offset
+abbrev pub decreases-loop-next : goal.decreases-loop-next
+decreases-loop-next l = length l.text - l.c.offset

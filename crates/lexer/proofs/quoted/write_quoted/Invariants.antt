@@ -9,12 +9,13 @@ use mir.Syntax.{w64}
 use mir.Val.{Fits}
 use lib.ListN.{length, set, length-set}
 use lib.Seq.{sets}
-use Rattle.lexer.specs.Quoted.{quoted_item, Quoted, whole, refused, with_char, out_of_limit, decode, bytes_of, Writes}
-use Rattle.lexer.specs.declared.quoted.Item.{Item}
-use Rattle.lexer.specs.declared.quoted.Item.TheVariants.{Char, Beyond, Skip, Close, Refused}
+use Rattle.lexer.specs.Quoted.{quoted_item, Quoted, whole, refused, with_char, out_of_limit, decode, bytes_of, Writes, QuotedItem}
+use Rattle.lexer.specs.declared.quoted.Item.TheVariants.{Char, Beyond, Skip, Close}
 use Rattle.lexer.specs.declared.refusal.Fault.{Fault}
 use Rattle.lexer.proofs.QuotedItems.{char_ends, skip_ends, decode-refused, decode-close, decode_skip, decode-beyond, decode_char}
 use Rattle.lexer.proofs.quoted.write_quoted.Given as goal
+use Rattle.lexer.specs.declared.quoted.Item.{Item}
+use Rattle.std.specs.declared.result.Result.TheVariants.{Ok, Err}
 
 pub record Inv (s : List ℕ) (from q token n : ℕ) (d₀ d : List ℕ) (at i : ℕ) : Type 0 where
   pub bytes : List ℕ
@@ -67,16 +68,16 @@ module _ (s : List ℕ) (from q token n : ℕ) (d₀ d : List ℕ) (at i : ℕ) 
   pub done : n ≤ i → d ≡ sets d₀ 0 (bytes_of (decode q token s from))
   done h = empty (none v.bytes (omega arith))
 
-  module _ (r : Item) (f : r ≡ quoted_item q token s at) where
-    pub refuse : (w : Fault) → r ≡ Refused w → d ≡ sets d₀ 0 (bytes_of (decode q token s from))
-    refuse w g = cc (decode-refused q token s at w (sym f ∙ g), v.left)
+  pub refuse : (w : Fault) → Err w ≡ quoted_item q token s at → d ≡ sets d₀ 0 (bytes_of (decode q token s from))
+  refuse w g = cc (decode-refused q token s at w (sym g), v.left)
 
+  module _ (r : Item) (f : Ok r ≡ quoted_item q token s at) where
     module _ (e : ℕ) where
       pub close : r ≡ Close e → d ≡ sets d₀ 0 (bytes_of (decode q token s from))
-      close g = empty (cc (decode-close q token s at e (sym f ∙ g), v.left))
+      close g = empty (cc (decode-close q token s at e (sym f ∙ ap Ok g), v.left))
 
       pub beyond : r ≡ Beyond e → d ≡ sets d₀ 0 (bytes_of (decode q token s from))
-      beyond g = in-limit token (decode q token s e) v.bytes v.end (sym (decode-beyond q token s at e (sym f ∙ g)) ∙ v.left)
+      beyond g = in-limit token (decode q token s e) v.bytes v.end (sym (decode-beyond q token s at e (sym f ∙ ap Ok g)) ∙ v.left)
 
       module _ (g : r ≡ Skip e) where
         pub skip : Inv s from q token n d₀ d e i
@@ -84,7 +85,7 @@ module _ (s : List ℕ) (from q token n : ℕ) (d₀ d : List ℕ) (at i : ℕ) 
             record {
               bytes = v.bytes;
               end = v.end;
-              left = sym (decode_skip q token s at e (sym f ∙ g)) ∙ v.left;
+              left = sym (decode_skip q token s at e (sym f ∙ ap Ok g)) ∙ v.left;
               same = v.same;
               count = v.count;
               long = v.long;
@@ -92,11 +93,11 @@ module _ (s : List ℕ) (from q token n : ℕ) (d₀ d : List ℕ) (at i : ℕ) 
             }
 
         pub skip_less : length s - e < length s - at
-        skip_less = let p = skip_ends q s at token e (sym f ∙ g) in omega arith
+        skip_less = let p = skip_ends q s at token e (sym f ∙ ap Ok g) in omega arith
 
       module _ (b : ℕ) (g : r ≡ Char b e) where
         pub next : Behind b (decode q token s e) v.bytes v.end
-        next = behind b (decode q token s e) v.bytes v.end (sym (decode_char q token s at e b (sym f ∙ g)) ∙ v.left)
+        next = behind b (decode q token s e) v.bytes v.end (sym (decode_char q token s at e b (sym f ∙ ap Ok g)) ∙ v.left)
 
         pub counted : i + suc (length next.rest) ≡ n
         counted = ap (λ (bs : List ℕ). i + length bs) (sym next.all) ∙ v.count
@@ -120,7 +121,7 @@ module _ (s : List ℕ) (from q token n : ℕ) (d₀ d : List ℕ) (at i : ℕ) 
             }
 
         pub char_less : length s - e < length s - at
-        char_less = let p = char_ends q s at token e b (sym f ∙ g) in omega arith
+        char_less = let p = char_ends q s at token e b (sym f ∙ ap Ok g) in omega arith
 
 abbrev pub invariant-loop-i : goal.invariant-loop-i
 invariant-loop-i l = Inv l.text l.from l.quote l.token l.n l.initial.scratch l.scratch l.at l.i

@@ -10,16 +10,17 @@ use borrow.Author.Tests.{le-leb, lt-leb}
 use lib.ListN.{length, get_or}
 use lib.Seq.{sets}
 use Rattle.lexer.specs.Quoted.{decode, bytes_of, Writes}
-use Rattle.lexer.specs.Refusal.{fault}
-use Rattle.lexer.specs.Text.{leaves, text_told, token_text, Reads}
+use Rattle.lexer.specs.Refusal.{fault, refuse}
+use Rattle.lexer.specs.Text.{leaves, text_told, token_text, Reads, text_read}
 use Rattle.lexer.specs.declared.cursor.Cursor.{Cursor}
 use Rattle.lexer.specs.declared.refusal.Refusal.TheVariants.{NoRoom}
 use Rattle.lexer.specs.declared.text.Part.{Part}
-use Rattle.lexer.specs.declared.text.TextAnswer.TheVariants.{Read, Refused}
 use Rattle.lexer.specs.declared.token.Token.{Token}
 use Rattle.lexer.specs.declared.token.Spelling.{Spelling}
+use Rattle.lexer.proofs.HandedOn.{handed_on}
 use Rattle.lexer.proofs.Texts.{Decoded, decoded_read}
 use Rattle.lexer.proofs.text.decoded_text.Goals as goal
+use Rattle.std.specs.declared.result.Result.TheVariants.{Ok, Err}
 
 module _ (s : List ℕ) (c : Cursor) (t : Token) (n : ℕ) (next : Cursor) (r : Reads s c t (Spelling.Decoded n) next) where
   it : Decoded s c t n next
@@ -35,22 +36,19 @@ module _ (s : List ℕ) (c : Cursor) (t : Token) (n : ℕ) (next : Cursor) (r : 
   writes room h = record { end = it.end; bytes = it.bytes; reads = it.quoted.reads; count = it.count; fits = h }
 
   module _ (d : List ℕ) where
-    no-room : length d < n → leaves (Refused (fault NoRoom t.start) c) d ≡ token_text s c d
+    no-room : length d < n → leaves (refuse (fault NoRoom t.start) c) d ≡ token_text s c d
     unfolding text_told
     no-room h = cc (it.reads, lt-leb (length it.bytes) (length d) (omega (arith, it.count)))
 
     written : (d' : List ℕ) → n ≤ length d → d' ≡ sets d 0 (bytes_of (decode (get_or s t.start 0) t.start s (t.start + 1)))
-        → leaves (Read t next (Part.Scratch 0 n)) d' ≡ token_text s c d
+        → leaves (text_read t next (Part.Scratch 0 n)) d' ≡ token_text s c d
     unfolding text_told bytes_of
     written d' h f = cc (it.reads, it.count, it.moved, it.quoted.reads, le-leb (length it.bytes) (length d) (omega (arith, it.count)))
 
-ruleset ways = (inside, fits, writes, no-room, written, rules)
+ruleset ways = (handed_on, inside, fits, writes, no-room, written, rules)
 
 pub returns-then-scratch-n : goal.returns-then-scratch-n
 returns-then-scratch-n c = search ways
-
-pub returns : goal.returns
-returns c = search ways
 
 pub overflow_add-start : goal.overflow_add-start
 overflow_add-start c = search ways
@@ -60,3 +58,6 @@ bounds-text-start c = search ways
 
 pub write_quoted-requires : goal.write_quoted-requires
 write_quoted-requires c = search ways
+
+pub returns : goal.returns
+returns c = search ways

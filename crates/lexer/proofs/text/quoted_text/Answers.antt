@@ -14,14 +14,14 @@ use Rattle.lexer.specs.Cursor.{longest, valid}
 use Rattle.lexer.specs.Look.{lookahead}
 use Rattle.lexer.specs.Quoted.{decode}
 use Rattle.lexer.specs.Refusal.{fault}
-use Rattle.lexer.specs.Text.{counts, counted_text, quoted_from, quoted_text, Begins}
+use Rattle.lexer.specs.Text.{counts, counted_text, quoted_from, quoted_text, Begins, QuotedAnswer}
 use Rattle.lexer.specs.Token.{not_valid}
-use Rattle.lexer.specs.declared.chars.Look.{Look}
+use Rattle.lexer.specs.Look.{Look}
+use Rattle.std.specs.declared.result.Result.TheVariants.{Ok, Err}
 use Rattle.lexer.specs.declared.cursor.Cursor.{Cursor}
 use Rattle.lexer.specs.declared.refusal.Fault.{Fault}
 use Rattle.lexer.specs.declared.refusal.Refusal.TheVariants.{NoToken}
-use Rattle.lexer.specs.declared.text.QuotedAnswer.{QuotedAnswer}
-use Rattle.lexer.specs.declared.text.QuotedAnswer.TheVariants.{Refused}
+use Rattle.lexer.proofs.HandedOn.{handed_on}
 use Rattle.lexer.proofs.Cursors.{is-valid}
 use Rattle.lexer.proofs.Looks.{look_byte}
 use Rattle.lexer.proofs.text.quoted_text.Goals as goal
@@ -41,18 +41,18 @@ tested n at = go (leb n longest && leb at n) refl
 
 module _ (s : List ℕ) (at : ℕ) (b : Bool) (v : b ≡ valid (length s) (here at)) where
   -- the ways out
-  invalid : (w : Fault) (d : List ℕ) → not b ≡ true → w ≡ not_valid → counts (Refused w) d ≡ quoted_text s at d
+  invalid : (w : Fault) (d : List ℕ) → not b ≡ true → w ≡ not_valid → counts (Err w) d ≡ quoted_text s at d
   invalid w d g h = cc (not-true b g, tested (length s) at)
 
   module _ (g : not b ≡ false) (r : Look) (f : r ≡ lookahead s at) where
     told : (d : List ℕ) → quoted_text s at d ≡ quoted_from s at d r
     told d = cc (not-false b g, tested (length s) at)
 
-    not_there : (w : Fault) (d : List ℕ) → r ≡ Look.Refused w → counts (Refused w) d ≡ quoted_text s at d
+    not_there : (w : Fault) (d : List ℕ) → r ≡ Err w → counts (Err w) d ≡ quoted_text s at d
     unfolding quoted_from
     not_there w d h = cc (told d)
 
-    module _ (x : ℕ) (h : r ≡ Look.Byte x) where
+    module _ (x : ℕ) (h : r ≡ Ok x) where
       begins : Begins s at
       begins = record { short = (is-valid (length s) (here at) (sym v ∙ not-false b g)).short; inside = (look_byte s at x (sym f ∙ h)).inside }
 
@@ -63,23 +63,23 @@ module _ (s : List ℕ) (at : ℕ) (b : Bool) (v : b ≡ valid (length s) (here 
         quoted (inl q) a d' e = cc (told d)
         quoted (inr q) a d' e = cc (told d)
 
-        other : ((x ≡ double_quote) ⊎ (x ≡ single_quote) → ⊥) → counts (Refused (fault NoToken at)) d ≡ quoted_text s at d
+        other : ((x ≡ double_quote) ⊎ (x ≡ single_quote) → ⊥) → counts (Err (fault NoToken at)) d ≡ quoted_text s at d
         unfolding quoted_from
         other n = cc (told d, ne_eqb x single_quote (λ q. n (inr q)), ne_eqb x double_quote (λ q. n (inl q)))
 
-ruleset ways = (invalid, not_there, begins, quoted, other, rules)
+ruleset ways = (handed_on, invalid, not_there, begins, quoted, other, rules)
 
 pub returns-then-not-is_valid : goal.returns-then-not-is_valid
 returns-then-not-is_valid c = search ways
 
-pub returns-in-Refused : goal.returns-in-Refused
-returns-in-Refused c = search ways
+pub returns-in_err-b : goal.returns-in_err-b
+returns-in_err-b c = search (ways, c.in_err-b.was)
+
+pub quoted_bytes-requires : goal.quoted_bytes-requires
+quoted_bytes-requires c = search ways
 
 pub returns-in-39 : goal.returns-in-39
 returns-in-39 c = search ways
 
 pub returns-in_default : goal.returns-in_default
 returns-in_default c = search ways
-
-pub quoted_bytes-requires : goal.quoted_bytes-requires
-quoted_bytes-requires c = search ways

@@ -5,20 +5,22 @@ use mathlib.Core.Bool.{Bool}
 use mathlib.Core.List.{List}
 use borrow.Author.Rules.{rules}
 use Rattle.lexer.specs.Look.{lookahead}
-use Rattle.lexer.specs.Token.{Lexeme, lexeme, refused, lexeme_to, answered, found}
+use Rattle.lexer.specs.Token.{Lexeme, lexeme, refused, lexeme_to, answered, found, FoundToken, found_whole, token_read, Answer}
 use Rattle.lexer.specs.declared.refusal.Fault.{Fault}
 use Rattle.lexer.specs.declared.cursor.Cursor.{Cursor}
 use Rattle.lexer.specs.declared.token.Token.{Token}
 use Rattle.lexer.specs.declared.token.Spelling.{Spelling}
-use Rattle.lexer.specs.declared.token.Found.{Found}
-use Rattle.lexer.specs.declared.token.Answer.{Answer}
 use Rattle.lexer.specs.declared.token.Source.TheVariants.{File}
+use Rattle.lexer.proofs.HandedOn.{handed_on}
 use Rattle.lexer.proofs.token.answer_here.Goals as goal
+use Rattle.std.specs.declared.result.Result.TheVariants.{Ok, Err}
+use Rattle.lexer.specs.declared.token.Found.{Found}
+use Rattle.lexer.specs.Refusal.{refuse}
 
 -- what the call answers, by what was found
-abbrev told : Cursor → Found → Answer
-told c (Found.Whole o t l y k) = Answer.Read t (record { offset = o; line = l; column = k })
-told c (Found.Refused w) = Answer.Refused w c
+abbrev told : Cursor → FoundToken → Answer
+told c (Ok p) = token_read p.token (record { offset = p.offset; line = p.line; column = p.column })
+told c (Err w) = refuse w c
 
 module _ (s : List ℕ) (c : Cursor) where
   -- a cursor is what its fields make
@@ -27,21 +29,20 @@ module _ (s : List ℕ) (c : Cursor) where
   told-found (lexeme t e y) = refl
   told-found (refused w) = refl
 
-  module _ (layout : Bool) (r : Found) (f : r ≡ found s c (lexeme_to File s c.offset layout (lookahead s c.offset))) where
-    answers : (z : Found) → r ≡ z → told c z ≡ answered s c (lexeme_to File s c.offset layout (lookahead s c.offset))
+  module _ (layout : Bool) (r : FoundToken) (f : r ≡ found s c (lexeme_to File s c.offset layout (lookahead s c.offset))) where
+    answers : (z : FoundToken) → r ≡ z → told c z ≡ answered s c (lexeme_to File s c.offset layout (lookahead s c.offset))
     answers z g = ap (told c) (sym g ∙ f) ∙ told-found (lexeme_to File s c.offset layout (lookahead s c.offset))
 
-    no-token : (w : Fault) → r ≡ Found.Refused w → Answer.Refused w c ≡ answered s c (lexeme_to File s c.offset layout (lookahead s c.offset))
-    no-token w g = answers (Found.Refused w) g
+    no-token : (w : Fault) → r ≡ Err w → refuse w c ≡ answered s c (lexeme_to File s c.offset layout (lookahead s c.offset))
+    no-token w g = answers (Err w) g
 
-    read : (o : ℕ) (t : Token) (l : ℕ) (y : Spelling) (k : ℕ) → r ≡ Found.Whole o t l y k
-        → Answer.Read t (record { offset = o; line = l; column = k }) ≡ answered s c (lexeme_to File s c.offset layout (lookahead s c.offset))
-    read o t l y k g = answers (Found.Whole o t l y k) g
+    read : (p : Found) → r ≡ Ok p → token_read p.token (record { offset = p.offset; line = p.line; column = p.column }) ≡ answered s c (lexeme_to File s c.offset layout (lookahead s c.offset))
+    read p g = answers (Ok p) g
 
-ruleset ways = (no-token, read, rules)
+ruleset ways = (handed_on, no-token, read, rules)
 
-pub returns-in-Refused : goal.returns-in-Refused
-returns-in-Refused c = search ways
+pub returns-in-Err : goal.returns-in-Err
+returns-in-Err c = search ways
 
-pub returns-in-Whole : goal.returns-in-Whole
-returns-in-Whole c = search ways
+pub returns-in-Ok : goal.returns-in-Ok
+returns-in-Ok c = search ways

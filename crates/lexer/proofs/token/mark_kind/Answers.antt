@@ -9,9 +9,9 @@ use native.Mathlib.Omega.{arith}
 use Rattle.lexer.specs.Chars.{open_paren, close_paren, comma, open_bracket, close_bracket, open_brace, close_brace}
 use Rattle.lexer.specs.Token.{mark, is_mark}
 use Rattle.lexer.specs.declared.kind.Kind.TheVariants.{Open, OpenCT, Close, OpenList, CloseList, OpenCurly, CloseCurly, Comma}
-use Rattle.lexer.specs.declared.token.Mark.TheVariants.{Is}
 use Rattle.lexer.proofs.Table.{agree, agreed}
 use Rattle.lexer.proofs.token.mark_kind.Goals as goal
+use Rattle.std.specs.declared.option.Option.TheVariants.{Some}
 
 abbrev between : ℕ → ℕ → ℕ → Bool
 between lo hi x = is_mark (mark false x) && (leb lo x && ltb x hi)
@@ -28,35 +28,35 @@ module _ (t : Bool) (b : ℕ) (h : b < 256) (m : is_mark (mark false b) ≡ true
     unfolding mark
     opens = only 0 close_paren open_paren tt (omega arith) k
 
-    open_after : t ≡ true → Is Open ≡ mark t b
+    open_after : t ≡ true → Some Open ≡ mark t b
     unfolding mark
     open_after f = cc opens
 
-    open-directly : t ≡ false → Is OpenCT ≡ mark t b
+    open-directly : t ≡ false → Some OpenCT ≡ mark t b
     unfolding mark
     open-directly f = cc opens
 
-  closes : close_paren ≤ b → b < comma → Is Close ≡ mark t b
+  closes : close_paren ≤ b → b < comma → Some Close ≡ mark t b
   unfolding mark
   closes l k = cc (only close_paren comma close_paren tt l k)
 
-  comma_there : comma ≤ b → b < open_bracket → Is Comma ≡ mark t b
+  comma_there : comma ≤ b → b < open_bracket → Some Comma ≡ mark t b
   unfolding mark
   comma_there l k = cc (only comma open_bracket comma tt l k)
 
-  list : open_bracket ≤ b → b < close_bracket → Is OpenList ≡ mark t b
+  list : open_bracket ≤ b → b < close_bracket → Some OpenList ≡ mark t b
   unfolding mark
   list l k = cc (only open_bracket close_bracket open_bracket tt l k)
 
-  list_closes : close_bracket ≤ b → b < open_brace → Is CloseList ≡ mark t b
+  list_closes : close_bracket ≤ b → b < open_brace → Some CloseList ≡ mark t b
   unfolding mark
   list_closes l k = cc (only close_bracket open_brace close_bracket tt l k)
 
-  curly : open_brace ≤ b → b < close_brace → Is OpenCurly ≡ mark t b
+  curly : open_brace ≤ b → b < close_brace → Some OpenCurly ≡ mark t b
   unfolding mark
   curly l k = cc (only open_brace close_brace open_brace tt l k)
 
-  curly_closes : close_brace ≤ b → Is CloseCurly ≡ mark t b
+  curly_closes : close_brace ≤ b → Some CloseCurly ≡ mark t b
   unfolding mark
   curly_closes l = cc (only close_brace 256 close_brace tt l h)
 

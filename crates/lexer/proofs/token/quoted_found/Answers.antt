@@ -9,14 +9,15 @@ use lib.Dec.{eqb}
 use Rattle.lexer.specs.Chars.{class_of, is, quote_char, single_quote, double_quote, back_quote}
 use Rattle.lexer.specs.Quoted.{decode}
 use Rattle.lexer.specs.Refusal.{fault}
-use Rattle.lexer.specs.Token.{quoted_to, quoted_lexeme, found, Begins, Quotes}
+use Rattle.lexer.specs.Token.{quoted_to, quoted_lexeme, found, Begins, Quotes, FoundToken}
 use Rattle.lexer.specs.declared.refusal.Refusal.TheVariants.{NoToken}
 use Rattle.lexer.specs.declared.cursor.Cursor.{Cursor}
 use Rattle.lexer.specs.declared.kind.Kind.{Kind}
 use Rattle.lexer.specs.declared.kind.Kind.TheVariants.{Name, String}
-use Rattle.lexer.specs.declared.token.Found.{Found}
+use Rattle.lexer.proofs.HandedOn.{handed_on}
 use Rattle.lexer.proofs.Table.{agreed}
 use Rattle.lexer.proofs.token.quoted_found.Goals as goal
+use Rattle.std.specs.declared.result.Result.TheVariants.{Err}
 
 -- the quotes: one test over all bytes, which antt computes
 quotes : (b : ℕ) → b < 256 → is quote_char b ≡ (eqb b back_quote || (eqb b single_quote || eqb b double_quote))
@@ -24,10 +25,10 @@ unfolding class_of
 quotes b h = agreed (is quote_char) (λ x. eqb x back_quote || (eqb x single_quote || eqb x double_quote)) 256 tt b h
 
 module _ (s : List ℕ) (c : Cursor) (b : ℕ) (w : Quotes s c b) where
-  abbrev due : Found
+  abbrev due : FoundToken
   due = found s c (quoted_lexeme s c.offset b)
 
-  abbrev read : Kind → Found
+  abbrev read : Kind → FoundToken
   read k = found s c (quoted_to k c.offset (decode b c.offset s (c.offset + 1)))
 
   begins : Begins s c b
@@ -40,8 +41,8 @@ module _ (s : List ℕ) (c : Cursor) (b : ℕ) (w : Quotes s c b) where
   by_quote false true e f g = cc (eqb-true b double_quote f)
   by_quote false false e f g = absurd (true≢false (sym g))
 
-  module _ (r : Found) where
-    none : b ≡ back_quote → r ≡ Found.Refused (fault NoToken c.offset) → r ≡ due
+  module _ (r : FoundToken) where
+    none : b ≡ back_quote → r ≡ Err (fault NoToken c.offset) → r ≡ due
     unfolding quoted_lexeme found
     none f h = cc
 
@@ -51,7 +52,7 @@ module _ (s : List ℕ) (c : Cursor) (b : ℕ) (w : Quotes s c b) where
         let i = by_quote (eqb b single_quote) (eqb b double_quote) refl refl o in
         cc (g, h, i)
 
-ruleset ways = (begins, none, quoted, rules)
+ruleset ways = (handed_on, begins, none, quoted, rules)
 
 pub returns-then-b-eq96 : goal.returns-then-b-eq96
 returns-then-b-eq96 c = search ways
