@@ -7,13 +7,12 @@ use mathlib.Core.List.{List, [], ◌∷◌, map}
 use native.Mathlib.Omega.{arith}
 use lib.Dec.{eqb, ltb}
 use lib.ListN.{length, get_or}
-use borrow.Author.Tests.{eqb-true, ltb-true}
+use borrow.Author.Tests.{eqb-true, eqb-false, ltb-true, not-true, not-false}
+use Rattle.std.specs.Prelude.{None}
 use Rattle.reader.specs.Token.{same_text}
 use Rattle.reader.specs.Ops.{spell, Entry, prefix_op, infix_op, Table, operators, find_pre, find_inf, is_comma, is_minus, prefix_of, infix_of}
 use Rattle.reader.specs.Roles.{prefix_role, infix_role, roles_of}
 use Rattle.reader.specs.Names.{space, trimmed, entry_at, prefix_in, infix_in}
-use Rattle.reader.specs.declared.roles.Prefix.TheVariants.{Absent as noPrefix}
-use Rattle.reader.specs.declared.roles.Infix.TheVariants.{Absent as noInfix}
 use Rattle.reader.specs.declared.roles.Roles.{Roles}
 use Rattle.reader.proofs.Table.{and_left, and_right, same_exactly}
 
@@ -108,6 +107,31 @@ module _ (h : ℕ → ℕ → ℕ → ℕ) (a b c d e f : ℕ) where
   pub other_byte : (h a b c ≡ h d e f → ⊥) → same_text (trimmed a b c) (trimmed d e f) ≡ false
   other_byte n = differ (trimmed a b c) (trimmed d e f) (λ same. n (cc (by_trimmed h a b c, by_trimmed h d e f)))
 
+-- Two short names have the same text exactly if they have the same bytes.
+module _ (a b c d e f : ℕ) where
+  abbrev pub bytes_eq : Bool
+  bytes_eq = eqb a d && (eqb b e && eqb c f)
+
+  pub same_bytes : bytes_eq ≡ same_text (trimmed a b c) (trimmed d e f)
+  same_bytes = go (eqb a d) refl (eqb b e) refl (eqb c f) refl
+    where
+      go : (x : Bool) → eqb a d ≡ x → (y : Bool) → eqb b e ≡ y → (z : Bool) → eqb c f ≡ z → x && (y && z) ≡ same_text (trimmed a b c) (trimmed d e f)
+      go false p y q z r = sym (other_byte (λ i j k. i) a b c d e f (eqb-false a d p))
+      go true p false q z r = sym (other_byte (λ i j k. j) a b c d e f (eqb-false b e q))
+      go true p true q false r = sym (other_byte (λ i j k. k) a b c d e f (eqb-false c f r))
+      go true p true q true r =
+          let g : a ≡ d = eqb-true a d p in
+          let h : b ≡ e = eqb-true b e q in
+          let l : c ≡ f = eqb-true c f r in
+          sym ((same_exactly (trimmed a b c) (trimmed d e f)).1 (cc))
+
+  module _ (differ : Bool) (n : differ ≡ not bytes_eq) where
+    pub same_name : differ ≡ false → true ≡ same_text (trimmed a b c) (trimmed d e f)
+    same_name e = sym (not-false bytes_eq (sym n ∙ e)) ∙ same_bytes
+
+    pub other_named : differ ≡ true → false ≡ same_text (trimmed a b c) (trimmed d e f)
+    other_named e = sym (not-true bytes_eq (sym n ∙ e)) ∙ same_bytes
+
 -- The places in the code's two small tables
 
 unfoldable pub below : List ℕ → Bool
@@ -151,45 +175,45 @@ module _ {R : Type 0} (roleIn : Entry → List ℕ → R) (whole : List ℕ → 
       subst (λ (k : ℕ). roleIn (entry_at k) (trimmed a b c) ≡ whole (trimmed a b c)) (by_trimmed h a b c)
       (agree (λ x. roleIn (entry_at (by_bytes h x)) x) whole operators test other (trimmed a b c))
 
-prefix_other : (e : Entry) (x : List ℕ) → same_text x (name_of e) ≡ false → prefix_in e x ≡ noPrefix
+prefix_other : (e : Entry) (x : List ℕ) → same_text x (name_of e) ≡ false → prefix_in e x ≡ None
 unfolding prefix_in name_of
 prefix_other (prefix_op y r) x h = rw h
 prefix_other (infix_op y r) x h = refl
 
-infix_other : (e : Entry) (x : List ℕ) → same_text x (name_of e) ≡ false → infix_in e x ≡ noInfix
+infix_other : (e : Entry) (x : List ℕ) → same_text x (name_of e) ≡ false → infix_in e x ≡ None
 unfolding infix_in name_of
 infix_other (prefix_op y r) x h = refl
 infix_other (infix_op y r) x h = rw h
 
-prefix_whole : (x : List ℕ) → named operators x ≡ false → prefix_role (prefix_of operators x) ≡ noPrefix
+prefix_whole : (x : List ℕ) → named operators x ≡ false → prefix_role (prefix_of operators x) ≡ None
 unfolding prefix_of prefix_role
 prefix_whole x u = go (is_comma x)
   where
-    go : (v : Bool) → prefix_role (cond v none (find_pre operators x)) ≡ noPrefix
+    go : (v : Bool) → prefix_role (cond v none (find_pre operators x)) ≡ None
     go true = refl
     go false = rw (no_pre x operators u)
 
-infix_whole : (x : List ℕ) → named operators x ≡ false → infix_role (infix_of operators x) ≡ noInfix
+infix_whole : (x : List ℕ) → named operators x ≡ false → infix_role (infix_of operators x) ≡ None
 unfolding infix_of infix_role
 infix_whole x u = go (is_comma x)
   where
-    go : (v : Bool) → infix_role (cond v none (find_inf operators x)) ≡ noInfix
+    go : (v : Bool) → infix_role (cond v none (find_inf operators x)) ≡ None
     go true = refl
     go false = rw (no_inf x operators u)
 
 module _ (h : ℕ → ℕ → ℕ → ℕ) (lower : (a b c : ℕ) → h a b c < 39) where
   pub prefix_placed : map (λ e. prefix_in (entry_at (by_bytes h (name_of e))) (name_of e)) operators ≡ map (λ e. prefix_role (prefix_of operators (name_of e))) operators →
       (a b c : ℕ) → prefix_in (entry_at (h a b c)) (trimmed a b c) ≡ prefix_role (prefix_of operators (trimmed a b c))
-  prefix_placed = placed prefix_in (λ x. prefix_role (prefix_of operators x)) noPrefix prefix_other prefix_whole h lower
+  prefix_placed = placed prefix_in (λ x. prefix_role (prefix_of operators x)) None prefix_other prefix_whole h lower
 
   pub infix_placed : map (λ e. infix_in (entry_at (by_bytes h (name_of e))) (name_of e)) operators ≡ map (λ e. infix_role (infix_of operators (name_of e))) operators →
       (a b c : ℕ) → infix_in (entry_at (h a b c)) (trimmed a b c) ≡ infix_role (infix_of operators (trimmed a b c))
-  infix_placed = placed infix_in (λ x. infix_role (infix_of operators x)) noInfix infix_other infix_whole h lower
+  infix_placed = placed infix_in (λ x. infix_role (infix_of operators x)) None infix_other infix_whole h lower
 
 -- No name that fails a test has a role, if all the table's names pass it.
 
 abbrev pub no_roles : Roles
-no_roles = record { minus = false; prefix = noPrefix; «infix» = noInfix }
+no_roles = record { minus = false; prefix = None; «infix» = None }
 
 not-minus : (x : List ℕ) → named operators x ≡ false → is_minus x ≡ false
 unfolding named name_of same_text

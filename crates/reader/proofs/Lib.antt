@@ -17,9 +17,7 @@ pub mod Specimens
 pub mod Finding
 pub mod Fronts
 pub mod Stacks
-pub mod Tags
 pub mod Rooms
-pub mod Views
 pub mod Sights
 pub mod Turns
 pub mod Runs
@@ -31,6 +29,7 @@ pub mod Lines
 pub mod Puts
 pub mod Terms
 pub mod Walks
+pub mod Prefixes
 pub mod Cover
 pub mod Spans
 pub mod LineOutcomes

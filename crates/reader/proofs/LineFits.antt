@@ -18,9 +18,7 @@ use Rattle.reader.specs.Grammar.{Term, a_number, a_var_or_string, a_name, a_call
 use Rattle.reader.specs.Clause as gathered
 use Rattle.reader.specs.Clause.{most_tokens, clause_tokens}
 use Rattle.reader.specs.Listing.{shape_of, last_separator, front, back, printed, joined, others, quoted_comma, token_at, spelled, line}
-use Rattle.reader.specs.LineCall.{longest_line, LineOutcome, invalid, token, no_mark, no_reading, no_room, read}
-use Rattle.reader.specs.declared.line_call.LineAnswer.{LineAnswer}
-use Rattle.reader.specs.declared.line_call.LineAnswer.TheVariants.{Read, Refused}
+use Rattle.reader.specs.LineCall.{longest_line, LineOutcome, invalid, token, no_mark, no_reading, no_room, read, line_to, LineAnswer}
 use Rattle.reader.specs.Fault as chains
 use Rattle.reader.specs.Fault.{Chain}
 use Rattle.reader.proofs.Chains.{begins}
@@ -29,6 +27,9 @@ use Rattle.reader.proofs.LineOutcomes.{one_line}
 use Rattle.reader.proofs.Puts.{part_length}
 use Rattle.reader.proofs.Spans.{gathered_few}
 use Rattle.reader.proofs.Terms.{separated, printed_length, others-length}
+use Rattle.lexer.specs.declared.refusal.Refused.{Refused}
+use Rattle.lexer.specs.Refusal.{refused_at}
+use Rattle.std.specs.Prelude.{Ok, Err}
 
 -- the index of the next of n tokens
 head : ℕ → List Tok → ℕ
@@ -238,17 +239,17 @@ module _ (s : List ℕ) (c : Cursor) (v : valid (length s) c ≡ true) (ts : Lis
       omega (arith, p.2, p.1, paid_most s c.offset ts f.chain p.0 (omega (arith, p.1)), f.few, (is-valid (length s) c v).short)
 
   -- with a slice of so many bytes a clause that has a reading is read
-  pub read_whole : (t : Tree) → Reads operators ts t → (d : List ℕ) → longest_line ≤ length d → (r : LineAnswer) (x : List ℕ) → LineOutcome s c d r x → r ≡ Read (length (line s ts t)) e
+  pub read_whole : (t : Tree) → Reads operators ts t → (d : List ℕ) → longest_line ≤ length d → (r : LineAnswer) (x : List ℕ) → LineOutcome s c d r x → r ≡ Ok (line_to (length (line s ts t)) e)
   read_whole t q d l r x o =
       let m : length (line s ts t) ≤ length d = omega (arith, line-short operators t q) in
       (one_line s c d o (read v g q m)).0
 
 -- with such a slice a refusal is not for room: it is the refusal whatever the slice
 module _ (s : List ℕ) (c : Cursor) (d : List ℕ) (l : longest_line ≤ length d) (w : Fault) (k : Cursor) (d' : List ℕ) where
-  carry : (u : Fault) → Refused u c ≡ Refused w k → LineOutcome s c d' (Refused u c) d' → LineOutcome s c d' (Refused w c) d'
-  carry u h o = let e : u ≡ w = cc in subst (λ (f : Fault). LineOutcome s c d' (Refused f c) d') e o
+  carry : (u : Fault) → ◌≡◌ {A = LineAnswer} (Err (refused_at u c)) (Err (refused_at w k)) → LineOutcome s c d' (Err (refused_at u c)) d' → LineOutcome s c d' (Err (refused_at w c)) d'
+  carry u h o = let m : refused_at u c ≡ refused_at w k = cc in let e : u ≡ w = ap (λ (z : Refused). z.fault) m in subst (λ (f : Fault). LineOutcome s c d' (Err (refused_at f c)) d') e o
 
-  pub refused_anyway : (r : LineAnswer) (x : List ℕ) → LineOutcome s c d r x → r ≡ Refused w k → LineOutcome s c d' (Refused w c) d'
+  pub refused_anyway : (r : LineAnswer) (x : List ℕ) → LineOutcome s c d r x → r ≡ Err (refused_at w k) → LineOutcome s c d' (Err (refused_at w c)) d'
   refused_anyway r x (invalid v) h = carry _ h (invalid v)
   refused_anyway r x (token v g) h = carry _ h (token v g)
   refused_anyway r x (no_mark v g) h = carry _ h (no_mark v g)

@@ -9,7 +9,7 @@ use lib.Dec.{leb}
 use lib.ListN.{length}
 use lib.Seq.{sets}
 use Rattle.lexer.specs.Cursor.{valid}
-use Rattle.lexer.specs.Refusal.{fault}
+use Rattle.lexer.specs.Refusal.{fault, refused_at}
 use Rattle.lexer.specs.Token.{not_valid}
 use Rattle.lexer.specs.declared.cursor.Cursor.{Cursor}
 use Rattle.lexer.specs.declared.refusal.Refusal.TheVariants.{NoRoom, TooManyTokens, NoReading}
@@ -21,13 +21,12 @@ use Rattle.reader.specs.Clause.{Gathered, whole, stopped, too_many, clause_token
 use Rattle.reader.specs.Listing.{line}
 use Rattle.reader.specs.Machine.{start}
 use Rattle.reader.specs.Gather.{latest_from}
-use Rattle.reader.specs.LineCall.{LineOutcome, invalid, token, no_mark, no_reading, no_room, read}
-use Rattle.reader.specs.declared.line_call.LineAnswer.{LineAnswer}
-use Rattle.reader.specs.declared.line_call.LineAnswer.TheVariants.{Read, Refused}
+use Rattle.reader.specs.LineCall.{LineOutcome, invalid, token, no_mark, no_reading, no_room, read, line_to, LineAnswer}
 use Rattle.reader.proofs.Answer.{one_tree, reads?}
 use Rattle.reader.proofs.Table.{fair, operators-admitted}
 use Rattle.reader.proofs.Viable.{one-fault}
 use Rattle.reader.proofs.Faults.{first_fault}
+use Rattle.std.specs.Prelude.{Ok, Err}
 
 -- an answer, and what is left in the slice
 data Left : Type 0 where
@@ -42,19 +41,19 @@ reading ts = reads? operators (fair operators operators-admitted) (terminals 0 t
 module _ (s : List ℕ) (c : Cursor) (d : List ℕ) where
   -- the outcome, computed
   by_line : Cursor → List ℕ → Left
-  by_line e bs = cond (leb (length bs) (length d)) (leaves (Read (length bs) e) (sets d 0 bs)) (leaves (Refused (fault NoRoom (first_offset s c)) c) d)
+  by_line e bs = cond (leb (length bs) (length d)) (leaves (Ok (line_to (length bs) e)) (sets d 0 bs)) (leaves (Err (refused_at (fault NoRoom (first_offset s c)) c)) d)
 
   by_reading : (ts : List Token) → Cursor → Reading ts → Left
   by_reading ts e (inl p) = by_line e (line s ts p.0)
-  by_reading ts e (inr n) = leaves (Refused (fault NoReading (latest_from start 0 0 ts)) c) d
+  by_reading ts e (inr n) = leaves (Err (refused_at (fault NoReading (latest_from start 0 0 ts)) c)) d
 
   by_tokens : Gathered → Left
-  by_tokens (stopped w) = leaves (Refused w c) d
-  by_tokens too_many = leaves (Refused (fault TooManyTokens (first_offset s c)) c) d
+  by_tokens (stopped w) = leaves (Err (refused_at w c)) d
+  by_tokens too_many = leaves (Err (refused_at (fault TooManyTokens (first_offset s c)) c)) d
   by_tokens (whole ts e) = by_reading ts e (reading ts)
 
   line_by : Left
-  line_by = cond (valid (length s) c) (by_tokens (clause_tokens s c)) (leaves (Refused not_valid c) d)
+  line_by = cond (valid (length s) c) (by_tokens (clause_tokens s c)) (leaves (Err (refused_at not_valid c)) d)
 
   abbrev Allowed : Left → Type 0
   Allowed (leaves r d') = LineOutcome s c d r d'
@@ -66,10 +65,10 @@ module _ (s : List ℕ) (c : Cursor) (d : List ℕ) where
       allowed_reading (inl p) = go (leb (length (line s ts p.0)) (length d)) refl
         where
           go : (b : Bool) → leb (length (line s ts p.0)) (length d) ≡ b
-              → Allowed (cond b (leaves (Read (length (line s ts p.0)) e) (sets d 0 (line s ts p.0))) (leaves (Refused (fault NoRoom (first_offset s c)) c) d))
+              → Allowed (cond b (leaves (Ok (line_to (length (line s ts p.0)) e)) (sets d 0 (line s ts p.0))) (leaves (Err (refused_at (fault NoRoom (first_offset s c)) c)) d))
           go true l = read v g p.1 (leb-true (length (line s ts p.0)) (length d) l)
           go false l = no_room v g p.1 (leb-false (length (line s ts p.0)) (length d) l)
-      allowed_reading (inr n) = let f = first_fault s c ts e g n in subst (λ (k : ℕ). LineOutcome s c d (Refused (fault NoReading k) c) d) f.2 (no_reading v g n f.1)
+      allowed_reading (inr n) = let f = first_fault s c ts e g n in subst (λ (k : ℕ). LineOutcome s c d (Err (refused_at (fault NoReading k) c)) d) f.2 (no_reading v g n f.1)
 
       -- a reading is the reading
       by-reading : (t : Tree) → Reads operators ts t → (x : Reading ts) → by_reading ts e x ≡ by_line e (line s ts t)
@@ -77,7 +76,7 @@ module _ (s : List ℕ) (c : Cursor) (d : List ℕ) where
       by-reading t r (inl p) = ap (λ (u : Tree). by_line e (line s ts u)) (one_tree operators (fair operators operators-admitted) p.1 r)
       by-reading t r (inr n) = absurd (n t r)
 
-      by_none : ((t : Tree) → Reads operators ts t → ⊥) → (x : Reading ts) → by_reading ts e x ≡ leaves (Refused (fault NoReading (latest_from start 0 0 ts)) c) d
+      by_none : ((t : Tree) → Reads operators ts t → ⊥) → (x : Reading ts) → by_reading ts e x ≡ leaves (Err (refused_at (fault NoReading (latest_from start 0 0 ts)) c)) d
       unfolding by_reading
       by_none n (inl p) = absurd (n p.0 p.1)
       by_none n (inr m) = refl
@@ -96,7 +95,7 @@ module _ (s : List ℕ) (c : Cursor) (d : List ℕ) where
   unfolding line_by
   allowed_one = go (valid (length s) c) refl
     where
-      go : (b : Bool) → valid (length s) c ≡ b → Allowed (cond b (by_tokens (clause_tokens s c)) (leaves (Refused not_valid c) d))
+      go : (b : Bool) → valid (length s) c ≡ b → Allowed (cond b (by_tokens (clause_tokens s c)) (leaves (Err (refused_at not_valid c)) d))
       go true v = allowed_tokens v (clause_tokens s c) refl
       go false v = invalid v
 

@@ -6,10 +6,9 @@ use native.Mathlib.Omega.{arith}
 use lib.ListN.{length, get_or, take, get_or-map}
 use Rattle.reader.specs.Token.{Token}
 use Rattle.reader.specs.Tree.{Tree, node, Forest, nil, ◌◂◌}
-use Rattle.reader.specs.Listing.{shape_of, last_separator, front, printed, joined, others, token_at, spelled, line, spelling, word, last_token, Within, root, WithinAll, none, more, leaves, line_outcome, Listable, SomeListable, Lists}
+use Rattle.reader.specs.Listing.{shape_of, last_separator, front, printed, joined, others, token_at, spelled, line, spelling, word, last_token, Within, root, WithinAll, none, more, leaves, line_outcome, Listable, SomeListable, Lists, Listed}
 use Rattle.reader.specs.declared.listing.Shape.{Shape}
 use Rattle.reader.specs.declared.listing.Shape.TheVariants.{Word, Negative, Call, Square, Tail, Curly}
-use Rattle.reader.specs.declared.listing.Listed.{Listed}
 use Rattle.reader.proofs.Chains.{front_at}
 use Rattle.reader.proofs.Spans.{Told}
 

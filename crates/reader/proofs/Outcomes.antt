@@ -10,7 +10,7 @@ use lib.Dec.{leb}
 use lib.ListN.{length}
 use lib.Seq.{sets}
 use Rattle.lexer.specs.Cursor.{valid}
-use Rattle.lexer.specs.Refusal.{fault}
+use Rattle.lexer.specs.Refusal.{fault, refused_at}
 use Rattle.lexer.specs.Token.{not_valid}
 use Rattle.lexer.specs.declared.cursor.Cursor.{Cursor}
 use Rattle.lexer.specs.declared.refusal.Refusal.TheVariants.{NoRoom, NoReading}
@@ -19,11 +19,9 @@ use Rattle.reader.specs.Ops.{operators}
 use Rattle.reader.specs.Tree.{Tree, packed, numbers}
 use Rattle.reader.specs.Grammar.{Reads}
 use Rattle.reader.specs.Machine.{Out, State, want, pend, begun, have, dead, done, laid, start}
-use Rattle.reader.specs.Clause.{Gathered, whole, stopped, too_many, clause_tokens, Outcome, invalid, token, no_mark, no_reading, no_room, read}
+use Rattle.reader.specs.Clause.{Gathered, whole, stopped, too_many, clause_tokens, Outcome, invalid, token, no_mark, no_reading, no_room, read, ClauseAnswer, read_to}
 use Rattle.reader.specs.Gather.{Left, leaves, nodes_of, machine_after, latest_from, came, written, by_nodes, by_tokens, answered, left_by, clause_by}
-use Rattle.reader.specs.declared.clause.Verdict.{Verdict}
-use Rattle.reader.specs.declared.clause.ClauseAnswer.{ClauseAnswer}
-use Rattle.reader.specs.declared.clause.ClauseAnswer.TheVariants.{Refused}
+use Rattle.reader.specs.declared.clause.Failure.{Failure}
 use Rattle.reader.proofs.Answer.{laid-length}
 use Rattle.reader.proofs.Basics.{push}
 use Rattle.reader.proofs.Complete.{complete}
@@ -32,6 +30,7 @@ use Rattle.reader.proofs.Unique.{laid_tree}
 use Rattle.reader.proofs.Table.{fair, operators-admitted}
 use Rattle.reader.proofs.Viable.{one-fault}
 use Rattle.reader.proofs.Faults.{first_fault}
+use Rattle.std.specs.Prelude.{Ok, Err}
 
 -- ---- the machine and the grammar
 module _ (ts : List Token) where
@@ -76,7 +75,7 @@ module _ (s : List ℕ) (c : Cursor) (d : List ℕ) where
     module _ (ts : List Token) (e : Cursor) (g : clause_tokens s c ≡ whole ts e) where
       -- ---- the machine's outcome is permitted
       fits : (t : Tree) → Reads operators ts t → (b : Bool) → leb (2 * length (push packed t [])) (length d) ≡ b
-          → Allowed (left_by s c (cond b (came (Verdict.Read (length (push packed t [])) e) (sets d 0 (laid (push packed t [])))) (came (Verdict.AtFirst NoRoom) d)))
+          → Allowed (left_by s c (cond b (came (Ok (read_to (length (push packed t [])) e)) (sets d 0 (laid (push packed t [])))) (came (Err (Failure.AtFirst NoRoom)) d)))
       unfolding left_by answered
       fits t r true l =
           let m = numbers_count ts t in
@@ -92,7 +91,7 @@ module _ (s : List ℕ) (c : Cursor) (d : List ℕ) where
       nodes none q =
           let n : (t : Tree) → Reads operators ts t → ⊥ = λ t r. let p = reading-nodes ts r in let z : ◌≡◌ {A = ℕ} 0 1 = cc in omega arith in
           let f = first_fault s c ts e g n in
-          subst (λ (k : ℕ). Outcome s c d (Refused (fault NoReading k) c) d) f.2 (no_reading v g n f.1)
+          subst (λ (k : ℕ). Outcome s c d (Err (refused_at (fault NoReading k) c)) d) f.2 (no_reading v g n f.1)
       nodes (some out) q =
           let r = nodes-reading ts out q in
           rw (sym r.2) (fits r.0 r.1 (leb (2 * length (push packed r.0 [])) (length d)) refl)
@@ -107,7 +106,7 @@ module _ (s : List ℕ) (c : Cursor) (d : List ℕ) where
   unfolding clause_by
   permitted_one = go (valid (length s) c) refl
     where
-      go : (b : Bool) → valid (length s) c ≡ b → Allowed (cond b (left_by s c (by_tokens d (clause_tokens s c))) (leaves (Refused not_valid c) d))
+      go : (b : Bool) → valid (length s) c ≡ b → Allowed (cond b (left_by s c (by_tokens d (clause_tokens s c))) (leaves (Err (refused_at not_valid c)) d))
       go true v = tokens v (clause_tokens s c) refl
       go false v = invalid v
 

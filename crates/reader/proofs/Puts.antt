@@ -1,11 +1,12 @@
 -- Bytes put before bytes that were put, and the shapes of nodes: what the proofs of the listing's functions share. Assumes nothing.
 use Prim.Native.Nat.{ℕ, suc, ◌+◌, ◌-◌, ◌<◌, ◌≤◌}
-use mathlib.Core.Path.{◌≡◌, refl, ap, subst, ◌∙◌}
-use mathlib.Core.List.{List, [], ◌∷◌, ◌++◌}
+use mathlib.Core.Path.{◌≡◌, refl, sym, ap, subst, ◌∙◌}
+use mathlib.Core.Logic.{◌⊎◌, inl, inr}
+use mathlib.Core.List.{List, [], ◌∷◌, ◌++◌, append-nil}
 use native.Mathlib.Nat.{add-zero}
 use native.Mathlib.Omega.{arith}
-use lib.ListN.{length, get_or, set, take, drop, length-append, length-drop}
-use lib.Seq.{sets, sets-eq, set_comm, take-append_seam, length-take-le}
+use lib.ListN.{length, get_or, set, take, drop, length-append, length-drop, drop_of_length-le}
+use lib.Seq.{sets, sets-eq, set_comm, take-append_seam, take-take, take-length, length-take-le}
 use borrow.Author.Tests.{eqb-true, eqb-false, eq-eqb, ne_eqb}
 use Rattle.lexer.specs.Chars.{comma, open_paren, open_bracket, open_brace}
 use Rattle.lexer.specs.Cursor.{part, longest}
@@ -13,6 +14,8 @@ use Rattle.reader.specs.Listing.{quoted_comma, spelling, word, front, back, last
 use Rattle.reader.specs.declared.listing.Shape.{Shape}
 use Rattle.reader.specs.declared.listing.Shape.TheVariants.{Word, Negative, Call, Square, Tail, Curly}
 use lib.Dec.{eqb}
+use borrow.Rule.Slice.PartMut.{put_mid}
+use Rattle.std.proofs.lemmas.Slice.{put_mid-paste}
 use mathlib.Core.Bool.{Bool, true, false}
 
 -- a store below a run of stores
@@ -75,6 +78,32 @@ module _ (cs bs : List ℕ) (at room : ℕ) (h : Room (cs ++ bs) at room) where
         tell (cs ++ bs) at d r d'' (omega (arith, length-append cs bs, t.start, u.start))
         (u.slice ∙ ap (λ (l : List ℕ). sets l r cs) (t.slice ∙ ap (λ (k : ℕ). sets d k bs) e) ∙ sets-sets cs bs d r)
 
+-- what fits before p fits at the end of the first p bytes
+pub room_in : {bs : List ℕ} {p : ℕ} (d : List ℕ) → Room bs p (length d) → Room bs (length (take p d)) (length (take p d))
+room_in {bs} {p} d h = let n = length-take-le p d h.inside in record { fits = omega (arith, h.fits); inside = omega arith }
+
+-- bytes that were put at the end of the first p bytes were put before p
+pub within : (cs : List ℕ) (p r : ℕ) (d e : List ℕ) → p ≤ length d → length cs ≤ p → put r e ≡ put_before cs (length (take p d)) (take p d) → put r (e ++ drop p d) ≡ put_before cs p d
+within cs p r d e l h f =
+    let n = length-take-le p d l in
+    let t = told cs (length (take p d)) (take p d) r e f in
+    let w : r + length cs ≡ p = omega (arith, t.start, n) in
+    let none : drop (r + length cs) (take p d) ≡ [] = drop_of_length-le (take p d) (omega (arith, n)) in
+    let front : e ≡ take r d ++ cs =
+    t.slice ∙ sets-eq cs (take p d) r (omega (arith, n))
+    ∙ ap (λ (l : List ℕ). l ++ cs ++ drop (r + length cs) (take p d)) (take-take r p d (omega arith))
+    ∙ ap (λ (l : List ℕ). take r d ++ cs ++ l) none
+    ∙ append-nil (take r d ++ cs) in
+    tell cs p d r (e ++ drop p d) (omega arith)
+    (ap (λ (l : List ℕ). l ++ drop p d) front ∙ ap (λ (k : ℕ). take r d ++ cs ++ drop k d) (sym w) ∙ sym (sets-eq cs d r (omega arith)))
+
+-- bytes that were copied to the place before `at`
+pub copied : (bs : List ℕ) (at p : ℕ) (d new : List ℕ) → Room bs at (length d) → p ≡ at - length bs → new ≡ bs → put p (put_mid p (at - p) d new) ≡ put_before bs at d
+copied bs at p d new h e f =
+    let w : p + length bs ≡ at = omega (arith, h.fits) in
+    tell bs at d p (put_mid p (at - p) d new) e
+    (put_mid-paste p (at - p) d new bs (length bs) f (omega arith) refl ∙ ap (λ (l : List ℕ). take p d ++ l ++ drop (p + length bs) d) (take-length bs) ∙ sym (sets-eq bs d p (omega (arith, h.inside))))
+
 -- ---- spellings
 module _ (s : List ℕ) (from to : ℕ) where
   pub spelling-comma : get_or s from 0 ≡ comma → spelling s from to ≡ quoted_comma
@@ -133,13 +162,10 @@ module _ (s starts ends : List ℕ) (x : Shape) (i : ℕ) where
   unfolding front
   front-call e = cc
 
-  pub front_square : x ≡ Square → front (word s starts ends) x i ≡ open_bracket ∷ []
+  pub front-bracket : (x ≡ Square) ⊎ (x ≡ Tail) → front (word s starts ends) x i ≡ open_bracket ∷ []
   unfolding front
-  front_square e = cc
-
-  pub front-tail : x ≡ Tail → front (word s starts ends) x i ≡ open_bracket ∷ []
-  unfolding front
-  front-tail e = cc
+  front-bracket (inl e) = cc
+  front-bracket (inr e) = cc
 
   pub front_curly : x ≡ Curly → front (word s starts ends) x i ≡ open_brace ∷ []
   unfolding front

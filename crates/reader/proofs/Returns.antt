@@ -6,7 +6,7 @@ use mathlib.Core.Logic.{◌⊎◌, inl, inr, ⊎_elim}
 use mathlib.Core.List.{List}
 use lib.ListN.{length, length-map}
 use Rattle.lexer.specs.Cursor.{move_to, valid}
-use Rattle.lexer.specs.Refusal.{fault}
+use Rattle.lexer.specs.Refusal.{fault, refused_at}
 use Rattle.lexer.specs.Token.{Text, source, decoded, none, Lexeme, lexeme, refused, read_lexeme}
 use Rattle.lexer.specs.declared.cursor.Cursor.{Cursor}
 use Rattle.lexer.specs.declared.refusal.Refusal.TheVariants.{BadQuoted}
@@ -14,10 +14,9 @@ use Rattle.lexer.specs.declared.token.Token as lexer
 use Rattle.lexer.specs.declared.token.Source.TheVariants.{File}
 use Rattle.lexer.proofs.Theorems.{blank, blanked, returns_read_alike, return_in_no_name, returns_move_alike}
 use Rattle.reader.specs.Token.{Token}
-use Rattle.reader.specs.Clause.{most_tokens, text_in, token_in, is_end, Gathered, stopped, with, onward, gather, clause_tokens, start_of, first_offset, Outcome, invalid, token, no_mark, no_reading, no_room, read}
-use Rattle.reader.specs.declared.clause.ClauseAnswer.{ClauseAnswer}
-use Rattle.reader.specs.declared.clause.ClauseAnswer.TheVariants.{Refused}
+use Rattle.reader.specs.Clause.{most_tokens, text_in, token_in, is_end, Gathered, stopped, with, onward, gather, clause_tokens, start_of, first_offset, Outcome, invalid, token, no_mark, no_reading, no_room, read, ClauseAnswer}
 use Rattle.reader.proofs.Outcomes.{one_outcome}
+use Rattle.std.specs.Prelude.{Err}
 
 -- the same, or the second is refused by 4
 abbrev Alike : Gathered → Gathered → Type 0
@@ -86,13 +85,13 @@ module _ (s : List ℕ) where
 
       module _ {a : ClauseAnswer} {x : List ℕ} (h : Outcome s c d a x) where
         -- or where one is refused by 4, unless the cursor is not valid
-        by_four : (o : ℕ) × (clause_tokens s c ≡ stopped (fault BadQuoted o)) → (Outcome s' c d a x) ⊎ ((o : ℕ) × (a ≡ Refused (fault BadQuoted o) c))
+        by_four : (o : ℕ) × (clause_tokens s c ≡ stopped (fault BadQuoted o)) → (Outcome s' c d a x) ⊎ ((o : ℕ) × (a ≡ Err (refused_at (fault BadQuoted o) c)))
         by_four f = go (valid (length s) c) refl
           where
-            go : (b : Bool) → valid (length s) c ≡ b → (Outcome s' c d a x) ⊎ ((o : ℕ) × (a ≡ Refused (fault BadQuoted o) c))
+            go : (b : Bool) → valid (length s) c ≡ b → (Outcome s' c d a x) ⊎ ((o : ℕ) × (a ≡ Err (refused_at (fault BadQuoted o) c)))
             go true v = inr (f.0, (one_outcome s c d h (token v f.1)).0)
             go false v = let e = one_outcome s c d h (invalid v) in inl (rw (e.0, e.1) (invalid (valid_same v)))
 
         -- either way
-        pub outcome_alike : (Outcome (blanked s) c d a x) ⊎ ((o : ℕ) × (a ≡ Refused (fault BadQuoted o) c))
+        pub outcome_alike : (Outcome (blanked s) c d a x) ⊎ ((o : ℕ) × (a ≡ Err (refused_at (fault BadQuoted o) c)))
         outcome_alike = ⊎_elim (λ f. ⊎_elim (λ g. inl (carried f g h)) by_four tokens_alike) by_four first_alike

@@ -6,18 +6,14 @@ use mathlib.Core.List.{List, [], ◌∷◌}
 use native.Mathlib.Omega.{arith}
 use lib.ListN.{length, get_or}
 use Rattle.reader.specs.Tree.{packed}
-use Rattle.reader.specs.Machine.{Node, Out, op, Bracket, Frame, waiting, opened, Frames, lt?, Red, red, emit, reduce, size, Numbered, none_left, one_more}
-use mir.Syntax.{w16}
-use mir.Val.{Fits}
-use Rattle.reader.specs.Layout.{tag_of, index_of, prio_of, curly_tag, call_tag, list_tag, frame_of, frames_of, out_of, Room, most, Held, Counts, stop_takes, takes}
+use Rattle.reader.specs.Machine.{Node, Out, op, Frame, waiting, opened, Frames, lt?, Red, red, emit, reduce, size, Numbered, none_left, one_more}
+use Rattle.reader.specs.Layout.{frame_of, frames_of, out_of, Room, most, Held, stop_takes, takes}
 use Rattle.reader.specs.declared.machine.Stop.{Stop}
 use Rattle.reader.specs.declared.machine.Stop.TheVariants.{Comma}
-use Rattle.reader.specs.declared.roles.Prefix.{Prefix}
-use Rattle.reader.specs.declared.roles.Infix.{Infix}
+use Rattle.reader.specs.declared.roles.Roles.{Roles}
 use Rattle.reader.specs.declared.machine.Sight.{Sight}
 use Rattle.reader.specs.declared.machine.Sight.TheVariants.{Name, Number, VarOrString, Round, Stop as Stops}
-use Rattle.reader.proofs.Stacks.{tail_node, frames_length, out_length, pop_frame}
-use Rattle.reader.proofs.Tags.{by_tag}
+use Rattle.reader.proofs.Stacks.{frames_length, out_length, pop_frame}
 
 NumberedRed : Red → Type 0
 NumberedRed (red fs out) = Numbered most fs
@@ -76,35 +72,6 @@ held_reduced st ns ns' d n d' n' k b h l e =
 pub top-size : (st : List ℕ) (d : ℕ) → 0 < d → Numbered most (frames_of st d) → size (frame_of (get_or st (d - 1) 0)) ≤ most
 top-size st d h f = first_size (frame_of (get_or st (d - 1) 0)) (frames_of st (d - 1)) (frames_of st d) f (pop_frame st d h)
 
--- a place number and an arity fit a word
-module _ (w t n : ℕ) (e : t ≡ tag_of w) (f : n ≡ prio_of w) (c : Counts w) (h : curly_tag < t) where
-  counted : n < most
-  unfolding size
-  counted =
-      let i = index_of w in
-      let p = prio_of w in
-      let g : p < most =
-      by_tag (λ (b : Bracket). size (opened b) ≤ most → p < most) (tag_of w) i p c.bracket
-      (λ q. absurd (omega arith)) (λ q. absurd (omega arith)) (λ q. absurd (omega arith)) (λ q k. omega arith) (λ q k. omega arith) (λ q k. omega arith)
-      c.few in
-      omega arith
-
-  pub place-fits : Fits w16 (n + 1)
-  place-fits = let g = counted in record { fits = omega arith }
-
-  pub arity-fits : (k : ℕ) → k ≤ tail_node → Fits w16 (k + (n + 1))
-  arity-fits k l = let g = counted in record { fits = omega arith }
-
--- tags of brackets that count places
-pub call_counts : (t : ℕ) → t ≡ call_tag → curly_tag < t
-call_counts t h = omega arith
-
-pub list_counts : (t : ℕ) → t ≡ list_tag → curly_tag < t
-list_counts t h = omega arith
-
-pub tail_counts : (t : ℕ) → list_tag < t → curly_tag < t
-tail_counts t h = omega arith
-
 -- Less room
 
 module _ (st ns : List ℕ) (d n k : ℕ) where
@@ -134,9 +101,9 @@ depth_in st ns d n k r = omega (arith, r.frames)
 
 module _ (st ns : List ℕ) (d n : ℕ) where
   module _ (k : Sight) (r : Room st ns d n (takes k)) where
-    takes_name : (e : ℕ) (m : Bool) (p : Prefix) (q : Infix) → k ≡ Name e m p q → Room st ns d n 1
+    takes_name : (e : ℕ) (x : Roles) → k ≡ Name e x → Room st ns d n 1
     unfolding takes
-    takes_name e m p q h = rw h at r
+    takes_name e x h = rw h at r
 
     pub takes-number : (s : ℕ) (low : Bool) → k ≡ Number s low → Room st ns d n 1
     unfolding takes
@@ -151,8 +118,8 @@ module _ (st ns : List ℕ) (d n : ℕ) where
     takes-round ct h = rw h at r
 
   module _ (k : Sight) (h : Held st ns d n (takes k)) where
-    pub held_name : (e : ℕ) (m : Bool) (p : Prefix) (q : Infix) → k ≡ Name e m p q → Room st ns d n 1
-    held_name e m p q g = takes_name k h.room e m p q g
+    pub held_name : (e : ℕ) (x : Roles) → k ≡ Name e x → Room st ns d n 1
+    held_name e x g = takes_name k h.room e x g
 
     pub held_stop : (x : Stop) → k ≡ Stops x → Held st ns d n (stop_takes x)
     unfolding takes

@@ -7,12 +7,11 @@ use mathlib.Core.List.{List}
 use native.Mathlib.Omega.{arith}
 use lib.ListN.{length}
 use Rattle.lexer.specs.Cursor.{move_to, valid}
-use Rattle.lexer.specs.Token.{Text, Lexeme, lexeme, refused, read_lexeme, answered, not_valid, next_token}
+use Rattle.lexer.specs.Token.{Text, Lexeme, lexeme, refused, read_lexeme, answered, not_valid, next_token, token_read}
 use Rattle.lexer.specs.declared.token.Source.TheVariants.{File}
 use Rattle.lexer.specs.declared.cursor.Cursor.{Cursor}
 use Rattle.lexer.specs.declared.token.Token as lexer
-use Rattle.lexer.specs.declared.token.Answer.{Answer}
-use Rattle.lexer.proofs.Theorems.{token_promises, lexeme_bounds, move_offset}
+use Rattle.lexer.proofs.Theorems.{token_promises, lexeme_bounds, move_offset, read_parts}
 use Rattle.reader.specs.Token.{Kind, terminal_as}
 use Rattle.reader.specs.Ops.{Pre, fx, fy, Inf, xfx, xfy, yfx, operators}
 use Rattle.reader.specs.Roles.{prefix_role, infix_role}
@@ -20,6 +19,8 @@ use Rattle.reader.specs.Layout.{pre_of, inf_of}
 use Rattle.reader.specs.Machine.{see}
 use Rattle.reader.specs.Clause.{token_in}
 use Rattle.reader.specs.Gather.{token_of, token_from, sight_from}
+use Rattle.lexer.specs.Refusal.{refuse}
+use Rattle.std.specs.declared.result.Result.TheVariants.{Ok, Err}
 
 -- what is known of a token that the token call read at c, with the cursor d behind it
 pub record Known (s : List ℕ) (c : Cursor) (t : lexer.Token) (d : Cursor) : Type 0 where
@@ -31,15 +32,16 @@ pub record Known (s : List ℕ) (c : Cursor) (t : lexer.Token) (d : Cursor) : Ty
   pub inside : d.offset ≤ length s
 
 module _ (s : List ℕ) (c : Cursor) (t : lexer.Token) (d : Cursor) where
-  pub known : next_token File s c ≡ Answer.Read t d → Known s c t d
+  pub known : next_token File s c ≡ token_read t d → Known s c t d
   unfolding answered
   known r = go (valid (length s) c) (read_lexeme File s c.offset) refl refl r
     where
       go : (v : Bool) (l : Lexeme) → valid (length s) c ≡ v → read_lexeme File s c.offset ≡ l
-          → cond v (answered s c l) (Answer.Refused not_valid c) ≡ Answer.Read t d → Known s c t d
+          → cond v (answered s c l) (refuse not_valid c) ≡ token_read t d → Known s c t d
       go true (lexeme u e x) v f g =
-          let same : u ≡ t = cc in
-          let moved : d ≡ move_to s c e = cc in
+          let parts = read_parts g in
+          let same : u ≡ t = parts.0 in
+          let moved : d ≡ move_to s c e = sym parts.1 in
           let p = token_promises s c File t d r in
           let b = lexeme_bounds File s c.offset u e x p.from.offset f in
           let ends : d.offset ≡ e = ap (λ (k : Cursor). k.offset) moved ∙ move_offset s c e (omega (arith, b.behind, b.ahead)) b.inside in

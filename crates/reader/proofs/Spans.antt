@@ -9,10 +9,9 @@ use lib.ListN.{length, get_or}
 use Rattle.lexer.specs.Chars.{comma}
 use Rattle.lexer.specs.Cursor.{valid, move_to}
 use Rattle.lexer.specs.Digits.{largest_magnitude}
-use Rattle.lexer.specs.Token.{Lexeme, lexeme, refused, is_comma, read_lexeme, answered, next_token}
+use Rattle.lexer.specs.Token.{Lexeme, lexeme, refused, is_comma, read_lexeme, answered, next_token, token_read}
 use Rattle.lexer.specs.declared.cursor.Cursor.{Cursor}
 use Rattle.lexer.specs.declared.token.Token as lexer
-use Rattle.lexer.specs.declared.token.Answer.{Answer}
 use Rattle.lexer.specs.declared.token.Source.TheVariants.{File}
 use Rattle.lexer.proofs.Theorems.{token_promises, comma_starts, integer_within}
 use Rattle.reader.specs.Token.{Integer, Token, terminals}
@@ -23,6 +22,7 @@ use Rattle.reader.specs.Cover.{between, all_bytes}
 use Rattle.reader.proofs.Cover.{covers_none, covers_more}
 use Rattle.reader.proofs.Sights.{Known, known}
 use Rattle.reader.proofs.Turns.{answered_there}
+use Rattle.std.specs.declared.result.Result.TheVariants.{Ok}
 
 pub terminals-length : (i : ℕ) (ts : List Token) → length (terminals i ts) ≡ length ts
 unfolding terminals
@@ -119,7 +119,7 @@ tail t ts e too_many h = let z : ◌≡◌ {A = ℕ} 0 1 = cc in absurd (omega a
 
 module _ (s : List ℕ) (c : Cursor) (v : valid (length s) c ≡ true) (n : ℕ) (ts : List Token) (e : Cursor)
     (next : (d : Cursor) → valid (length s) d ≡ true → (us : List Token) → gather n s d ≡ whole us e → Few s d n us e) where
-  one-read : (t : lexer.Token) (d : Cursor) → next_token File s c ≡ Answer.Read t d → gather (suc n) s c ≡ whole ts e → Few s c (suc n) ts e
+  one-read : (t : lexer.Token) (d : Cursor) → next_token File s c ≡ token_read t d → gather (suc n) s c ≡ whole ts e → Few s c (suc n) ts e
   one-read t d r g = go (is_end t.kind) refl
     where
       go : (b : Bool) → is_end t.kind ≡ b → Few s c (suc n) ts e

@@ -1,28 +1,40 @@
 -- Words, and the two stacks: pushing, popping, and what a store beyond a stack leaves alone. Assumes nothing.
 use Prim.Native.Nat.{ℕ, zero, suc, ◌+◌, ◌-◌, ◌*◌, ◌/◌, ◌%◌, ◌<◌, ◌≤◌}
-use mathlib.Core.Path.{◌≡◌, refl, ap}
+use mathlib.Core.Path.{◌≡◌, refl, sym, ap, ◌∙◌}
+use mathlib.Core.Bool.{Bool}
 use mathlib.Core.List.{List, [], ◌∷◌, ◌++◌}
 use native.Mathlib.Omega.{arith}
 use native.Mathlib.Numerals.{add-one}
-use lib.ListN.{length, get_or, set}
-use lib.Seq.{get_or-set_same, get_or-set_other}
-use Rattle.reader.specs.Machine.{nd, laid}
-use Rattle.reader.specs.Layout.{tag_of, index_of, prio_of, bound_of, frame_as, frame_of, node_of, frames_of, out_of}
+use lib.ListN.{length, get_or, set, take}
+use lib.Seq.{get_or-set_same, get_or-set_other, get_or-take, length-take-le}
+use Rattle.std.specs.Prelude.{Option, Some, None, slice_get}
+use Rattle.std.proofs.lemmas.Option.{slice_get_within, get_or_from_slice_get, slice_get-get_or}
+use Rattle.reader.specs.Machine.{nd, bound, separates, laid}
+use Rattle.reader.specs.Layout.{tag_as, index_of, prio_of, bound_of, frame_as, frame_of, node_of, frames_of, out_of}
+use Rattle.reader.specs.declared.machine.Tag.{Tag}
 use Rattle.reader.proofs.Answer.{laid-length}
+
+none_some : {x : ℕ} → None ≡ Some x → ⊥
+none_some e = let z : ◌≡◌ {A = ℕ} 0 1 = ap (λ (o : Option ℕ). held o) e in absurd (omega arith)
+  where
+    held : Option ℕ → ℕ
+    held None = 0
+    held (Some y) = 1
 
 -- Words
 
-pub frame_word : (t i q b : ℕ) → t < 8 → i < 65536 → q < 65536 → frame_of (t + 8 * i + 524288 * q + 34359738368 * b) ≡ frame_as t i q b
+-- n is the number of the tag t
+pub frame_word : (t : Tag) (n i q b : ℕ) → tag_as n ≡ t → n < 8 → i < 65536 → q < 65536 → frame_of (n + 8 * i + 524288 * q + 34359738368 * b) ≡ frame_as t i q b
 unfolding frame_of
-frame_word t i q b ht hi hq =
-    let w = t + 8 * i + 524288 * q + 34359738368 * b in
-    let e : tag_of w ≡ t = omega arith in
+frame_word t n i q b ht hn hi hq =
+    let w = n + 8 * i + 524288 * q + 34359738368 * b in
+    let e : w % 8 ≡ n = omega arith in
     let f₀ : w / 8 ≡ i + 65536 * q + 4294967296 * b = omega arith in
     let f : index_of w ≡ i = rw f₀ (omega arith) in
     let g₀ : w / 524288 ≡ q + 65536 * b = omega arith in
     let g : prio_of w ≡ q = rw g₀ (omega arith) in
     let h : bound_of w ≡ b = omega arith in
-    rw (e, f, g, h)
+    rw (e, f, g, h, ht)
 
 pub node_word : (i n : ℕ) → n < 65536 → node_of (65536 * i + n) ≡ nd i n
 unfolding node_of
@@ -31,37 +43,6 @@ node_word i n hn =
     let e : w / 65536 ≡ i = omega arith in
     let f : w % 65536 ≡ n = omega arith in
     rw (e, f)
-
--- The code's words for kind and arity; where the arity is open, it is added.
-abbrev pub plain_node : ℕ
-plain_node = 0
-
-abbrev pub negative_node : ℕ
-negative_node = 1024
-
-abbrev pub call_node : ℕ
-call_node = 2048
-
-abbrev pub prefix_node : ℕ
-prefix_node = 3073
-
-abbrev pub infix_node : ℕ
-infix_node = 4098
-
-abbrev pub list_node : ℕ
-list_node = 5120
-
-abbrev pub tail_node : ℕ
-tail_node = 6144
-
-abbrev pub curly_node : ℕ
-curly_node = 7169
-
-abbrev pub empty_list_node : ℕ
-empty_list_node = 8192
-
-abbrev pub empty_curly_node : ℕ
-empty_curly_node = 9216
 
 -- Stacks
 
@@ -106,6 +87,41 @@ pub out_length : (ns : List ℕ) (n : ℕ) → length (out_of ns n) ≡ n
 unfolding out_of
 out_length ns zero = refl
 out_length ns (suc n) = ap suc (out_length ns n)
+
+-- The whole of a slice, and a part of it, as a stack
+module _ (st : List ℕ) where
+  pub none_on_top : None ≡ slice_get st (length st - 1) → frames_of st (length st) ≡ []
+  unfolding frames_of
+  none_on_top e = go st refl
+    where
+      go : (xs : List ℕ) → st ≡ xs → frames_of st (length st) ≡ []
+      go [] h = rw h
+      go (x ∷ xs) h =
+          let k : length st - 1 < length st = rw h (omega arith) in
+          absurd (none_some (e ∙ slice_get-get_or st (length st - 1) 0 k))
+
+  pub one_on_top : (w : ℕ) → Some w ≡ slice_get st (length st - 1) → frames_of st (length st) ≡ frame_of w ∷ frames_of st (length st - 1)
+  one_on_top w e =
+      let k : length st - 1 < length st = slice_get_within st (length st - 1) w (sym e) in
+      let g : get_or st (length st - 1) 0 ≡ w = get_or_from_slice_get st (length st - 1) w 0 (sym e) in
+      pop_frame st (length st) (omega arith) ∙ ap (λ (v : ℕ). frame_of v ∷ frames_of st (length st - 1)) g
+
+  frames_part : (d e : ℕ) → e ≤ d → frames_of (take d st) e ≡ frames_of st e
+  unfolding frames_of
+  frames_part d zero h = refl
+  frames_part d (suc e) h = let g : get_or (take d st) e 0 ≡ get_or st e 0 = get_or-take d st e 0 (omega arith) in rw (g, frames_part d e (omega arith))
+
+  pub top_part : (d : ℕ) → d ≤ length st → frames_of (take d st) (length (take d st)) ≡ frames_of st d
+  top_part d h = ap (frames_of (take d st)) (length-take-le d st h) ∙ frames_part d d (omega arith)
+
+  pub part_length : (d : ℕ) → d ≤ length st → d ≡ length (take d st)
+  part_length d h = sym (length-take-le d st h)
+
+  pub part_bound : (d t : ℕ) → d ≤ length st → t ≡ bound (frames_of (take d st) (length (take d st))) → t ≡ bound (frames_of st d)
+  part_bound d t h e = e ∙ ap bound (top_part d h)
+
+  pub part_separates : (d : ℕ) (v : Bool) → d ≤ length st → v ≡ separates (frames_of (take d st) (length (take d st))) → v ≡ separates (frames_of st d)
+  part_separates d v h e = e ∙ ap separates (top_part d h)
 
 -- The numbers of the first words
 

@@ -10,7 +10,7 @@ use lib.ListN.{length, get_or}
 use lib.Seq.{sets}
 use Rattle.lexer.specs.Cursor.{part, valid}
 use Rattle.lexer.specs.Digits.{largest_magnitude}
-use Rattle.lexer.specs.Refusal.{fault}
+use Rattle.lexer.specs.Refusal.{fault, refused_at}
 use Rattle.lexer.specs.declared.cursor.Cursor.{Cursor}
 use Rattle.lexer.specs.declared.refusal.Fault.{Fault}
 use Rattle.lexer.specs.declared.refusal.Refusal.TheVariants.{BadQuoted, NoReading}
@@ -23,12 +23,9 @@ use Rattle.reader.specs.Grammar.{Clause, Reads}
 use Rattle.reader.specs.Fault.{Chain, FirstFault}
 use Rattle.reader.specs.Cover.{between, all_bytes}
 use Rattle.reader.specs.Machine.{Out, done, run, start, answer, Numbered}
-use Rattle.reader.specs.Clause.{most_tokens, Gathered, whole, stopped, with, clause_tokens, first_offset, Outcome}
+use Rattle.reader.specs.Clause.{most_tokens, Gathered, whole, stopped, with, clause_tokens, first_offset, Outcome, read_to, ClauseAnswer}
 use Rattle.reader.specs.Listing.{Within, kind_of, token_at, line, Source}
-use Rattle.reader.specs.LineCall.{longest_line, LineOutcome, ReadTree, Spans}
-use Rattle.reader.specs.declared.clause.ClauseAnswer.{ClauseAnswer}
-use Rattle.reader.specs.declared.line_call.LineAnswer.{LineAnswer}
-use Rattle.reader.specs.declared.line_call.LineAnswer.TheVariants.{Read, Refused}
+use Rattle.reader.specs.LineCall.{longest_line, LineOutcome, ReadTree, Spans, line_to, LineAnswer}
 use Rattle.reader.proofs.LineFits.{line-short, read_whole, refused_anyway}
 use Rattle.reader.proofs.LineOutcomes.{some-line, one_line}
 use Rattle.reader.proofs.Outcomes.{some_outcome, one_outcome}
@@ -45,6 +42,7 @@ use Rattle.reader.proofs.Specimens.{Holds, All, table, specimens}
 use Rattle.reader.proofs.LineSpecimens as Lines
 use Rattle.reader.proofs.Viable.{a_fault, one-fault, no-reading, other_rest}
 use Rattle.reader.proofs.Size.{frames_in, nodes_in, words_fit, places_fit, nodes_fit}
+use Rattle.std.specs.Prelude.{Ok, Err}
 
 -- ---- the grammar
 module _ (T : Table) (admitted : admits T ≡ true) where
@@ -125,32 +123,32 @@ module _ (s : List ℕ) (c : Cursor) (d : List ℕ) where
   -- A clause that has a reading t:
   module _ (ts : List Token) (e : Cursor) (t : Tree) (gathered : clause_tokens s c ≡ whole ts e) (reading : Reads operators ts t) where
     -- it is never refused with 11;
-    pub never_11 : {w : Fault} {b : Cursor} {x : List ℕ} → Outcome s c d (ClauseAnswer.Refused w b) x → w.refusal ≡ NoReading → ⊥
+    pub never_11 : {w : Fault} {b : Cursor} {x : List ℕ} → Outcome s c d (Err (refused_at w b)) x → w.refusal ≡ NoReading → ⊥
     never_11 = never_no_reading s c d ts e t gathered reading
 
     -- what is read of it is t: the node count, the cursor after the mark, the numbers in the slice;
-    pub count-is_the_trees : {n : ℕ} {b : Cursor} {x : List ℕ} → Outcome s c d (ClauseAnswer.Read n b) x → (2 * n ≡ length (numbers t)) × (b ≡ e) × (x ≡ sets d 0 (numbers t))
+    pub count-is_the_trees : {n : ℕ} {b : Cursor} {x : List ℕ} → Outcome s c d (Ok (read_to n b)) x → (2 * n ≡ length (numbers t)) × (b ≡ e) × (x ≡ sets d 0 (numbers t))
     count-is_the_trees = read_tree s c d ts e t gathered reading
 
     -- and from a valid cursor, with room for its numbers, it is read.
-    pub room_suffices : valid (length s) c ≡ true → length (numbers t) ≤ length d → {r : ClauseAnswer} {x : List ℕ} → Outcome s c d r x → (n : ℕ) × (r ≡ ClauseAnswer.Read n e)
+    pub room_suffices : valid (length s) c ≡ true → length (numbers t) ≤ length d → {r : ClauseAnswer} {x : List ℕ} → Outcome s c d r x → (n : ℕ) × (r ≡ Ok (read_to n e))
     room_suffices = room_reads s c d ts e t gathered reading
 
   -- From a valid cursor a clause that has no reading is refused with 11, at the first token that cannot stand.
   pub always_11 : (ts : List Token) (e : Cursor) → valid (length s) c ≡ true → clause_tokens s c ≡ whole ts e → ((t : Tree) → Reads operators ts t → ⊥)
-      → {r : ClauseAnswer} {x : List ℕ} → Outcome s c d r x → (t : Token) × FirstFault operators ts t × (r ≡ ClauseAnswer.Refused (fault NoReading t.start) c) × (x ≡ d)
+      → {r : ClauseAnswer} {x : List ℕ} → Outcome s c d r x → (t : Token) × FirstFault operators ts t × (r ≡ Err (refused_at (fault NoReading t.start) c)) × (x ≡ d)
   always_11 = always_no_reading s c d
 
   -- The next cursor, behind a clause that was read, is valid, further on, and within the text;
-  pub next_cursor : {n : ℕ} {e : Cursor} {x : List ℕ} → Outcome s c d (ClauseAnswer.Read n e) x → (valid (length s) e ≡ true) × (c.offset < e.offset) × (e.offset ≤ length s)
+  pub next_cursor : {n : ℕ} {e : Cursor} {x : List ℕ} → Outcome s c d (Ok (read_to n e)) x → (valid (length s) e ≡ true) × (c.offset < e.offset) × (e.offset ≤ length s)
   next_cursor = behind_clause s c d
 
   -- so it is behind a line.
-  pub next-line_cursor : {n : ℕ} {e : Cursor} {x : List ℕ} → LineOutcome s c d (LineAnswer.Read n e) x → (valid (length s) e ≡ true) × (c.offset < e.offset) × (e.offset ≤ length s)
+  pub next-line_cursor : {n : ℕ} {e : Cursor} {x : List ℕ} → LineOutcome s c d (Ok (line_to n e)) x → (valid (length s) e ≡ true) × (c.offset < e.offset) × (e.offset ≤ length s)
   next-line_cursor = behind-line s c d
 
   -- A line that was read fits its slice.
-  pub line-inside : {n : ℕ} {e : Cursor} {x : List ℕ} → LineOutcome s c d (LineAnswer.Read n e) x → n ≤ length d
+  pub line-inside : {n : ℕ} {e : Cursor} {x : List ℕ} → LineOutcome s c d (Ok (line_to n e)) x → n ≤ length d
   line-inside = fits_line s c d
 
 -- No line is longer than longest_line bytes, whatever the table; so with a slice of as many a clause that has a reading is read, and never refused for room.
@@ -159,12 +157,12 @@ module _ (s : List ℕ) (c : Cursor) (v : valid (length s) c ≡ true) (ts : Lis
   line-fits = line-short s c v ts e g
 
   pub line_read : (t : Tree) → Reads operators ts t → (d : List ℕ) → longest_line ≤ length d → (r : LineAnswer) (x : List ℕ) → LineOutcome s c d r x
-      → r ≡ Read (length (line s ts t)) e
+      → r ≡ Ok (line_to (length (line s ts t)) e)
   line_read = read_whole s c v ts e g
 
 -- A refusal with such a slice is the refusal whatever the slice.
 pub line_refused : (s : List ℕ) (c : Cursor) (d : List ℕ) → longest_line ≤ length d → (w : Fault) (k : Cursor) (d' : List ℕ) (r : LineAnswer) (x : List ℕ) → LineOutcome s c d r x
-    → r ≡ Refused w k → LineOutcome s c d' (Refused w c) d'
+    → r ≡ Err (refused_at w k) → LineOutcome s c d' (Err (refused_at w c)) d'
 line_refused = refused_anyway
 
 -- ---- what calls above the clause call go by (the line, the pack)
@@ -175,16 +173,16 @@ tokens_apart = tail
 
 module _ (s : List ℕ) (c : Cursor) where
   -- A tree slice of 2,046 numbers always serves: with it a refusal is not for room, and stands whatever the slice;
-  pub clause_refused : (d : List ℕ) → 2 * most_tokens ≤ length d + 2 → (w : Fault) (k : Cursor) (a : ClauseAnswer) (x : List ℕ) → Outcome s c d a x → a ≡ ClauseAnswer.Refused w k
-      → (y : List ℕ) → Outcome s c y (ClauseAnswer.Refused w c) y
+  pub clause_refused : (d : List ℕ) → 2 * most_tokens ≤ length d + 2 → (w : Fault) (k : Cursor) (a : ClauseAnswer) (x : List ℕ) → Outcome s c d a x → a ≡ Err (refused_at w k)
+      → (y : List ℕ) → Outcome s c y (Err (refused_at w c)) y
   clause_refused = refused_always s c
 
   -- whatever the slice, a refusal gives the cursor back,
-  pub clause_back : (d : List ℕ) {w : Fault} {k : Cursor} {x : List ℕ} → Outcome s c d (ClauseAnswer.Refused w k) x → k ≡ c
+  pub clause_back : (d : List ℕ) {w : Fault} {k : Cursor} {x : List ℕ} → Outcome s c d (Err (refused_at w k)) x → k ≡ c
   clause_back = refused-back s c
 
   -- and what was read stands in front.
-  pub clause_front : (d : List ℕ) (a : ClauseAnswer) (x : List ℕ) (nodes : ℕ) (e : Cursor) → Outcome s c d a x → a ≡ ClauseAnswer.Read nodes e → ReadTree s c x nodes e
+  pub clause_front : (d : List ℕ) (a : ClauseAnswer) (x : List ℕ) (nodes : ℕ) (e : Cursor) → Outcome s c d a x → a ≡ Ok (read_to nodes e) → ReadTree s c x nodes e
   clause_front = read-front s c
 
   module _ (ts : List Token) (e : Cursor) (v : valid (length s) c ≡ true) (g : clause_tokens s c ≡ whole ts e) where
@@ -225,7 +223,7 @@ pub returns_gathered : (s : List ℕ) (c : Cursor) → (clause_tokens (blanked s
 returns_gathered = tokens_alike
 
 -- So the clause call may answer for the one text what it may answer for the other, and leave the same in the tree slice.
-pub returns_clause : {s d x : List ℕ} {c : Cursor} {a : ClauseAnswer} → Outcome s c d a x → (Outcome (blanked s) c d a x) ⊎ ((o : ℕ) × (a ≡ ClauseAnswer.Refused (fault BadQuoted o) c))
+pub returns_clause : {s d x : List ℕ} {c : Cursor} {a : ClauseAnswer} → Outcome s c d a x → (Outcome (blanked s) c d a x) ⊎ ((o : ℕ) × (a ≡ Err (refused_at (fault BadQuoted o) c)))
 returns_clause {s} {c = c} = outcome_alike s c
 
 -- ---- 02, request 8: "the records of a clause then cover the bytes from the clause's cursor to the new one, each byte once"
@@ -236,7 +234,7 @@ pub clause_covered : (s : List ℕ) (c : Cursor) (ts : List Token) (e : Cursor) 
 clause_covered s c ts e v g = (gathered_few most_tokens s c ts e v g).covers
 
 -- A clause that the clause call read is one of them, and the new cursor is the call's.
-pub read_covered : (s : List ℕ) (c : Cursor) (d : List ℕ) {n : ℕ} {e : Cursor} {x : List ℕ} → Outcome s c d (ClauseAnswer.Read n e) x
+pub read_covered : (s : List ℕ) (c : Cursor) (d : List ℕ) {n : ℕ} {e : Cursor} {x : List ℕ} → Outcome s c d (Ok (read_to n e)) x
     → (ts : List Token) × (clause_tokens s c ≡ whole ts e) × (all_bytes ts ≡ between c.offset e.offset)
 read_covered = read_covers
 

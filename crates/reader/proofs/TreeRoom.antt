@@ -16,11 +16,9 @@ use Rattle.reader.specs.Token.{Token}
 use Rattle.reader.specs.Ops.{Table, operators}
 use Rattle.reader.specs.Tree.{Tree, numbers}
 use Rattle.reader.specs.Grammar.{Reads}
-use Rattle.reader.specs.Clause.{most_tokens, token_in, is_end, Gathered, whole, with, onward, gather, clause_tokens, start_of, first_offset, Outcome, invalid, token, no_mark, no_reading, no_room, read}
+use Rattle.reader.specs.Clause.{most_tokens, token_in, is_end, Gathered, whole, with, onward, gather, clause_tokens, start_of, first_offset, Outcome, invalid, token, no_mark, no_reading, no_room, read, read_to, ClauseAnswer}
 use Rattle.reader.specs.Listing.{token_at, Source, Within}
 use Rattle.reader.specs.LineCall.{ReadTree, Spans}
-use Rattle.reader.specs.declared.clause.ClauseAnswer.{ClauseAnswer}
-use Rattle.reader.specs.declared.clause.ClauseAnswer.TheVariants.{Read, Refused}
 use Rattle.reader.proofs.Answer.{tree_small}
 use Rattle.reader.specs.Fault.{Chain, none, more, FirstFault}
 use Rattle.reader.proofs.Chains.{begins, within, front_at, source_of}
@@ -28,6 +26,10 @@ use Rattle.reader.proofs.Indexes.{reads_within}
 use Rattle.reader.proofs.Puts.{sets-front}
 use Rattle.reader.proofs.Spans.{terminals-length, tail, gathered_few}
 use Rattle.reader.proofs.Table.{fair, operators-admitted}
+use Rattle.lexer.specs.declared.refusal.Refused.{Refused}
+use Rattle.reader.specs.declared.clause.ClauseRead.{ClauseRead}
+use Rattle.lexer.specs.Refusal.{refused_at}
+use Rattle.std.specs.Prelude.{Ok, Err}
 
 -- ---- a clause's first token
 record First (ts : List Token) (at : ℕ) : Type 0 where
@@ -112,15 +114,16 @@ module _ (s : List ℕ) (c : Cursor) where
 
   module _ (d : List ℕ) where
     -- what was read stands in front
-    pub read-front : (a : ClauseAnswer) (x : List ℕ) (nodes : ℕ) (e : Cursor) → Outcome s c d a x → a ≡ Read nodes e → ReadTree s c x nodes e
+    pub read-front : (a : ClauseAnswer) (x : List ℕ) (nodes : ℕ) (e : Cursor) → Outcome s c d a x → a ≡ Ok (read_to nodes e) → ReadTree s c x nodes e
     read-front a x nodes e (invalid v) h = let z : ◌≡◌ {A = ℕ} 0 1 = cc in absurd (omega arith)
     read-front a x nodes e (token v g) h = let z : ◌≡◌ {A = ℕ} 0 1 = cc in absurd (omega arith)
     read-front a x nodes e (no_mark v g) h = let z : ◌≡◌ {A = ℕ} 0 1 = cc in absurd (omega arith)
     read-front a x nodes e (no_reading v g q f) h = let z : ◌≡◌ {A = ℕ} 0 1 = cc in absurd (omega arith)
     read-front a x nodes e (no_room v g q l) h = let z : ◌≡◌ {A = ℕ} 0 1 = cc in absurd (omega arith)
     read-front a x nodes e (read {ts} {e = f} {t = t} {n = k} v g q m l) h =
-        let same : k ≡ nodes = cc in
-        let mark : f ≡ e = cc in
+        let both : read_to k f ≡ read_to nodes e = cc in
+        let same : k ≡ nodes = ap (λ (z : ClauseRead). z.nodes) both in
+        let mark : f ≡ e = ap (λ (z : ClauseRead). z.next) both in
         let many : nodes * 2 ≡ length (numbers t) = omega arith in
         record {
           valid_cursor = v;
@@ -135,12 +138,12 @@ module _ (s : List ℕ) (c : Cursor) where
     -- refused, and not for room: refused so whatever the slice
     module _ (l : 2 * most_tokens ≤ length d + 2) (w : Fault) (k : Cursor) where
       abbrev Always : Type 0
-      Always = (y : List ℕ) → Outcome s c y (Refused w c) y
+      Always = (y : List ℕ) → Outcome s c y (Err (refused_at w c)) y
 
-      carry : (u : Fault) → Refused u c ≡ Refused w k → ((y : List ℕ) → Outcome s c y (Refused u c) y) → Always
-      carry u h o y = let e : u ≡ w = cc in subst (λ (f : Fault). Outcome s c y (Refused f c) y) e (o y)
+      carry : (u : Fault) → ◌≡◌ {A = ClauseAnswer} (Err (refused_at u c)) (Err (refused_at w k)) → ((y : List ℕ) → Outcome s c y (Err (refused_at u c)) y) → Always
+      carry u h o y = let m : refused_at u c ≡ refused_at w k = cc in let e : u ≡ w = ap (λ (z : Refused). z.fault) m in subst (λ (f : Fault). Outcome s c y (Err (refused_at f c)) y) e (o y)
 
-      pub refused_always : (a : ClauseAnswer) (x : List ℕ) → Outcome s c d a x → a ≡ Refused w k → Always
+      pub refused_always : (a : ClauseAnswer) (x : List ℕ) → Outcome s c d a x → a ≡ Err (refused_at w k) → Always
       refused_always a x (invalid v) h = carry _ h (λ y. invalid v)
       refused_always a x (token v g) h = carry _ h (λ y. token v g)
       refused_always a x (no_mark v g) h = carry _ h (λ y. no_mark v g)
@@ -148,7 +151,7 @@ module _ (s : List ℕ) (c : Cursor) where
       refused_always a x (no_room {ts} {e} {t} v g q m) h = absurd (omega (arith, few_numbers ts e v g t q))
       refused_always a x (read v g q m n) h = let z : ◌≡◌ {A = ℕ} 0 1 = cc in absurd (omega arith)
 
-    pub refused-back : {w : Fault} {k : Cursor} {x : List ℕ} → Outcome s c d (Refused w k) x → k ≡ c
+    pub refused-back : {w : Fault} {k : Cursor} {x : List ℕ} → Outcome s c d (Err (refused_at w k)) x → k ≡ c
     refused-back (invalid v) = refl
     refused-back (token v g) = refl
     refused-back (no_mark v g) = refl

@@ -11,8 +11,8 @@ use Rattle.lexer.specs.declared.token.Source.TheVariants.{File}
 use Rattle.lexer.specs.declared.cursor.Cursor.{Cursor}
 use Rattle.lexer.specs.declared.refusal.Fault.{Fault}
 use Rattle.lexer.specs.declared.token.Token as lexer
-use Rattle.lexer.specs.declared.token.Answer.{Answer}
-use Rattle.lexer.proofs.Theorems.{token_promises}
+use Rattle.lexer.specs.Token.{token_read}
+use Rattle.lexer.proofs.Theorems.{token_promises, refuse_parts}
 use Rattle.reader.specs.Token.{Token}
 use Rattle.reader.specs.Tree.{packed}
 use Rattle.reader.specs.Machine as M
@@ -27,6 +27,8 @@ use Rattle.reader.specs.declared.machine.Sight as code
 use Rattle.reader.specs.declared.machine.Stop as codeStop
 use Rattle.reader.proofs.Sights.{Known, token-known}
 use Rattle.reader.proofs.Size.{count_low, numbered}
+use Rattle.lexer.specs.Refusal.{refuse}
+use Rattle.std.specs.declared.result.Result.TheVariants.{Err}
 
 -- ---- what the token call tells
 
@@ -34,18 +36,18 @@ module _ (s : List ℕ) (c : Cursor) (v : valid (length s) c ≡ true) where
   pub answered_there : next_token File s c ≡ answered s c (read_lexeme File s c.offset)
   answered_there = rw v
 
-  pub told-refused : (w : Fault) (k : Cursor) → next_token File s c ≡ Answer.Refused w k → read_lexeme File s c.offset ≡ refused w
+  pub told-refused : (w : Fault) (k : Cursor) → next_token File s c ≡ refuse w k → read_lexeme File s c.offset ≡ refused w
   unfolding answered
   told-refused w k e = go (read_lexeme File s c.offset) refl (sym answered_there ∙ e)
     where
-      go : (x : Lexeme) → read_lexeme File s c.offset ≡ x → answered s c x ≡ Answer.Refused w k → read_lexeme File s c.offset ≡ refused w
-      go (refused u) q f = cc
+      go : (x : Lexeme) → read_lexeme File s c.offset ≡ x → answered s c x ≡ refuse w k → read_lexeme File s c.offset ≡ refused w
+      go (refused u) q f = cc ((refuse_parts f).0)
       go (lexeme u n y) q f = let z : ◌≡◌ {A = ℕ} 0 1 = cc in absurd (omega arith)
 
   -- the next cursor is valid
   pub next-valid : (t : lexer.Token) (d : Cursor) (e : ℕ) (x : Text) → read_lexeme File s c.offset ≡ lexeme t e x → d ≡ move_to s c e → valid (length s) d ≡ true
   unfolding answered
-  next-valid t d e x r m = (token_promises s c File t d (answered_there ∙ ap (answered s c) r ∙ ap (Answer.Read t) (sym m))).next_passes
+  next-valid t d e x r m = (token_promises s c File t d (answered_there ∙ ap (answered s c) r ∙ ap (token_read t) (sym m))).next_passes
 
 -- ---- room
 pub length_frames : (st : List ℕ) (d : ℕ) → length (frames_of st d) ≡ d
@@ -95,7 +97,7 @@ stop-takes codeStop.Stop.EndMark = omega arith
 
 pub takes_one : (k : code.Sight) → takes k ≤ 1
 unfolding takes
-takes_one (code.Sight.Name e m p q) = omega arith
+takes_one (code.Sight.Name e r) = omega arith
 takes_one (code.Sight.Number s low) = omega arith
 takes_one code.Sight.VarOrString = omega arith
 takes_one (code.Sight.Round ct) = omega arith

@@ -1,8 +1,8 @@
 -- The clause call: tokens up to an end mark, then the reading's tree. 01, "What is built" and "Refusal numbers". Definitions only.
-use Rattle.std.specs.Prelude.{ℕ, zero, suc, ◌*◌, ◌<◌, ◌≤◌, ◌≡◌, Bool, true, false, cond, List, [], ◌∷◌, length}
+use Rattle.std.specs.Prelude.{ℕ, zero, suc, ◌*◌, ◌<◌, ◌≤◌, ◌≡◌, Bool, true, false, cond, List, [], ◌∷◌, length, Result, Ok, Err}
 use Rattle.std.proofs.lemmas.List.Edits.{sets}
 use Rattle.lexer.specs.Cursor.{part, move_to, valid}
-use Rattle.lexer.specs.Refusal.{fault}
+use Rattle.lexer.specs.Refusal.{fault, refused_at}
 use Rattle.lexer.specs.Token.{Text, source, decoded, none, Lexeme, lexeme, refused, read_lexeme, not_valid}
 use Rattle.lexer.specs.declared.cursor.Cursor.{Cursor}
 use Rattle.lexer.specs.declared.refusal.Fault.{Fault}
@@ -14,8 +14,8 @@ use Rattle.reader.specs.Ops.{operators}
 use Rattle.reader.specs.Tree.{Tree, numbers}
 use Rattle.reader.specs.Grammar.{Reads}
 use Rattle.reader.specs.Fault.{FirstFault}
-use Rattle.reader.specs.declared.clause.ClauseAnswer.{ClauseAnswer}
-use Rattle.reader.specs.declared.clause.ClauseAnswer.TheVariants.{Read, Refused}
+use Rattle.reader.specs.declared.clause.ClauseRead.{ClauseRead}
+use Rattle.lexer.specs.declared.refusal.Refused.{Refused}
 
 -- 01: "1,024 tokens with the mark pass"
 abbrev pub most_tokens : ℕ
@@ -81,20 +81,28 @@ start_of (refused w) = 0
 abbrev pub first_offset : List ℕ → Cursor → ℕ
 first_offset s c = start_of (read_lexeme File s c.offset)
 
+-- so many nodes, and the cursor behind the clause
+abbrev pub read_to : ℕ → Cursor → ClauseRead
+read_to n e = record { nodes = n; next = e }
+
+-- what the clause call answers
+abbrev pub ClauseAnswer : Type 0
+ClauseAnswer = Result ClauseRead Refused
+
 -- 01: what the clause call may answer, and leave in the tree slice d, in the order of the refusals. Two that are permitted coincide (proofs/Theorems)
 pub data Outcome (s : List ℕ) (c : Cursor) (d : List ℕ) : ClauseAnswer → List ℕ → Type 0 where
   -- 8
-  invalid : valid (length s) c ≡ false → Outcome s c d (Refused not_valid c) d
+  invalid : valid (length s) c ≡ false → Outcome s c d (Err (refused_at not_valid c)) d
   -- 1 to 7, as the token call gives them
-  token : {w : Fault} → valid (length s) c ≡ true → clause_tokens s c ≡ stopped w → Outcome s c d (Refused w c) d
+  token : {w : Fault} → valid (length s) c ≡ true → clause_tokens s c ≡ stopped w → Outcome s c d (Err (refused_at w c)) d
   -- 10
-  no_mark : valid (length s) c ≡ true → clause_tokens s c ≡ too_many → Outcome s c d (Refused (fault TooManyTokens (first_offset s c)) c) d
+  no_mark : valid (length s) c ≡ true → clause_tokens s c ≡ too_many → Outcome s c d (Err (refused_at (fault TooManyTokens (first_offset s c)) c)) d
   -- 11: the grammar has no reading, and f is the first token that cannot stand
   no_reading : {ts : List Token} {e : Cursor} {f : Token} → valid (length s) c ≡ true → clause_tokens s c ≡ whole ts e → ((t : Tree) → Reads operators ts t → ⊥) →
-      FirstFault operators ts f → Outcome s c d (Refused (fault NoReading f.start) c) d
+      FirstFault operators ts f → Outcome s c d (Err (refused_at (fault NoReading f.start) c)) d
   -- 9
   no_room : {ts : List Token} {e : Cursor} {t : Tree} → valid (length s) c ≡ true → clause_tokens s c ≡ whole ts e → Reads operators ts t →
-      length d < length (numbers t) → Outcome s c d (Refused (fault NoRoom (first_offset s c)) c) d
+      length d < length (numbers t) → Outcome s c d (Err (refused_at (fault NoRoom (first_offset s c)) c)) d
   -- the reading's tree, its node count and the cursor after the mark
   read : {ts : List Token} {e : Cursor} {t : Tree} {n : ℕ} → valid (length s) c ≡ true → clause_tokens s c ≡ whole ts e → Reads operators ts t →
-      2 * n ≡ length (numbers t) → length (numbers t) ≤ length d → Outcome s c d (Read n e) (sets d 0 (numbers t))
+      2 * n ≡ length (numbers t) → length (numbers t) ≤ length d → Outcome s c d (Ok (read_to n e)) (sets d 0 (numbers t))

@@ -1,32 +1,31 @@
 -- What the private functions of the clause call promise. Definitions only.
-use Rattle.std.specs.Prelude.{ℕ, zero, suc, ◌+◌, ◌*◌, ◌<◌, ◌≤◌, ◌≡◌, Bool, true, false, cond, List, [], ◌∷◌, leb, length, get_or}
+use Rattle.std.specs.Prelude.{ℕ, zero, suc, ◌+◌, ◌*◌, ◌<◌, ◌≤◌, ◌≡◌, Bool, true, false, cond, List, [], ◌∷◌, leb, length, get_or, Ok, Err}
+use Rattle.std.specs.Prelude as std
 use Rattle.std.proofs.Math.Option.{Option, none, some}
 use Rattle.std.proofs.lemmas.List.Edits.{sets}
 use Rattle.lexer.specs.Chars.{single_quote}
 use Rattle.lexer.specs.Cursor.{longest, valid, move_to}
 use Rattle.lexer.specs.Quoted.{Quoted, decode, bytes_of}
-use Rattle.lexer.specs.Refusal.{fault}
-use Rattle.lexer.specs.Token.{Lexeme, lexeme, refused, read_lexeme, next_token, not_valid}
+use Rattle.lexer.specs.Refusal.{fault, refused_at}
+use Rattle.lexer.specs.Token.{Lexeme, lexeme, refused, read_lexeme, next_token, not_valid, token_read}
 use Rattle.lexer.specs.declared.token.Source.TheVariants.{File}
 use Rattle.lexer.specs.declared.cursor.Cursor.{Cursor}
 use Rattle.lexer.specs.declared.refusal.Fault.{Fault}
 use Rattle.lexer.specs.declared.refusal.Refusal.TheVariants.{NoRoom, TooManyTokens, NoReading}
 use Rattle.lexer.specs.declared.token.Token as lexer
-use Rattle.lexer.specs.declared.token.Answer.{Answer}
 use Rattle.reader.specs.Token.{Name, Token, no_token, terminal_as, terminals}
 use Rattle.reader.specs.Ops.{operators}
 use Rattle.reader.specs.Tree.{packed}
 use Rattle.reader.specs.Machine as M
 use Rattle.reader.specs.Machine.{Out, State, want, pend, begun, have, dead, done, see, run, start, is_dead, laid}
 use Rattle.reader.specs.Weight.{weight}
-use Rattle.reader.specs.Clause.{most_tokens, Gathered, whole, stopped, too_many, token_in, is_end, clause_tokens, first_offset}
+use Rattle.reader.specs.Clause.{most_tokens, Gathered, whole, stopped, too_many, token_in, is_end, clause_tokens, first_offset, read_to, ClauseAnswer}
 use Rattle.reader.specs.Layout.{state_of}
 use Rattle.reader.specs.declared.machine.Mode.{Mode}
 use Rattle.reader.specs.declared.machine.Mode.TheVariants.{Want, Pend, Begun, Have, Dead, Done}
-use Rattle.reader.specs.declared.clause.Machined.{Machined}
-use Rattle.reader.specs.declared.clause.Verdict.{Verdict}
-use Rattle.reader.specs.declared.clause.ClauseAnswer.{ClauseAnswer}
-use Rattle.reader.specs.declared.clause.ClauseAnswer.TheVariants.{Read, Refused}
+use Rattle.reader.specs.declared.clause.ClauseRead.{ClauseRead}
+use Rattle.reader.specs.declared.clause.Taken.{Taken}
+use Rattle.reader.specs.declared.clause.Failure.{Failure}
 
 -- ---- one token
 
@@ -47,11 +46,11 @@ sight_from s c = seen (token_from s c)
 
 -- a token that the token call read at c, with the cursor d behind it
 pub record ReadFrom (s : List ℕ) (c : Cursor) (t : lexer.Token) (d : Cursor) : Type 0 where
-  pub reads : next_token File s c ≡ Answer.Read t d
+  pub reads : next_token File s c ≡ token_read t d
 
 -- and that is a name
 pub record NameFrom (s : List ℕ) (c : Cursor) (t : lexer.Token) (d : Cursor) : Type 0 where
-  pub reads : next_token File s c ≡ Answer.Read t d
+  pub reads : next_token File s c ≡ token_read t d
   pub name : t.kind ≡ Name
 
 -- the bytes of the quoted token at an offset (what stands for a refusal is never asked for)
@@ -103,10 +102,18 @@ clause_run (suc n) i a z s c = run_on s c i a z (read_lexeme File s c.offset) (�
 
 -- ---- what the code keeps of it
 
+-- the machine behind the tokens that were taken, or why one is refused
+abbrev pub Machined : Type 0
+Machined = std.Result Taken Fault
+
+-- by whether an end mark is the last
+unfoldable pub taken_as : Bool → ℕ → State → Cursor → Result
+taken_as true a z d = finished a z d
+taken_as false a z d = paused a z d
+
 unfoldable pub result_of : Machined → List ℕ → List ℕ → Result
-result_of (Machined.Whole a m d) st ns = finished a (state_of m st ns) d
-result_of (Machined.Stopped w) st ns = halted w
-result_of (Machined.Paused a m d) st ns = paused a (state_of m st ns) d
+result_of (Ok t) st ns = taken_as t.whole t.latest (state_of t.mode st ns) t.next
+result_of (Err w) st ns = halted w
 
 -- ---- what the code asks
 
@@ -129,10 +136,6 @@ pub record Beginning (s : List ℕ) (c : Cursor) (to : ℕ) (st ns : List ℕ) :
   pub frames : to < length st
   pub nodes : to < length ns
 
--- the words of one slice stand at the front of another
-pub record Copied (few all : List ℕ) : Type 0 where
-  pub words : (k : ℕ) → k < length few → get_or all k 0 ≡ get_or few k 0
-
 -- the machine behind the first tokens, in short slices
 pub record Longer (s : List ℕ) (m : Mode) (d : Cursor) (st ns : List ℕ) : Type 0 where
   pub valid-next : valid (length s) d ≡ true
@@ -147,6 +150,11 @@ pub record GoingOn (s : List ℕ) (d : Cursor) (m : Mode) (st ns fs os : List �
   pub nodes : most_tokens < length os
 
 -- ---- the whole call
+
+-- what was read, or why not
+abbrev pub Verdict : Type 0
+Verdict = std.Result ClauseRead Failure
+
 -- what a clause comes to, and what is left in the tree slice
 pub data Came : Type 0 where
   came : Verdict → List ℕ → Came
@@ -172,22 +180,22 @@ latest_from z i a (t ∷ ts) = latest_from (M.step packed z i (seen t)) (i + 1) 
 module _ (d : List ℕ) where
   -- the nodes are written, or there is no room for them
   unfoldable pub written : Cursor → Out → Came
-  written e out = cond (leb (2 * length out) (length d)) (came (Verdict.Read (length out) e) (sets d 0 (laid out))) (came (Verdict.AtFirst NoRoom) d)
+  written e out = cond (leb (2 * length out) (length d)) (came (Ok (read_to (length out) e)) (sets d 0 (laid out))) (came (Err (Failure.AtFirst NoRoom)) d)
 
   -- by the nodes of a machine behind the end mark, which took the token at `at` alive last
   unfoldable pub by_nodes : ℕ → Cursor → Option Out → Came
-  by_nodes at e none = came (Verdict.Refused (fault NoReading at)) d
+  by_nodes at e none = came (Err (Failure.At (fault NoReading at))) d
   by_nodes at e (some out) = written e out
 
   unfoldable pub by_tokens : Gathered → Came
-  by_tokens (stopped w) = came (Verdict.Refused w) d
-  by_tokens too_many = came (Verdict.AtFirst TooManyTokens) d
+  by_tokens (stopped w) = came (Err (Failure.At w)) d
+  by_tokens too_many = came (Err (Failure.AtFirst TooManyTokens)) d
   by_tokens (whole ts e) = by_nodes (latest_from start 0 0 ts) e (nodes_of (machine_after ts))
 
   -- the same of the run over the tokens
   unfoldable pub by_result : Result → Came
-  by_result (halted w) = came (Verdict.Refused w) d
-  by_result (paused a z e) = came (Verdict.AtFirst TooManyTokens) d
+  by_result (halted w) = came (Err (Failure.At w)) d
+  by_result (paused a z e) = came (Err (Failure.AtFirst TooManyTokens)) d
   by_result (finished a z e) = by_nodes a e (nodes_of z)
 
 -- an answer, and what is left in the tree slice
@@ -197,15 +205,15 @@ pub data Left : Type 0 where
 module _ (s : List ℕ) (c : Cursor) where
   -- the answer: the caller's cursor comes back, and a refusal at the first token has its offset
   unfoldable pub answered : Verdict → ClauseAnswer
-  answered (Verdict.Read n e) = Read n e
-  answered (Verdict.Refused w) = Refused w c
-  answered (Verdict.AtFirst r) = Refused (fault r (first_offset s c)) c
+  answered (Ok r) = Ok r
+  answered (Err (Failure.At w)) = Err (refused_at w c)
+  answered (Err (Failure.AtFirst r)) = Err (refused_at (fault r (first_offset s c)) c)
 
   unfoldable pub left_by : Came → Left
   left_by (came v d) = leaves (answered v) d
 
   unfoldable pub clause_by : List ℕ → Left
-  clause_by d = cond (valid (length s) c) (left_by (by_tokens d (clause_tokens s c))) (leaves (Refused not_valid c) d)
+  clause_by d = cond (valid (length s) c) (left_by (by_tokens d (clause_tokens s c))) (leaves (Err (refused_at not_valid c)) d)
 
 -- ---- what these functions ask
 

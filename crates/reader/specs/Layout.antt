@@ -1,32 +1,28 @@
 -- How the code holds the machine's states: a frame and a node are one word each, a stack is the first so many words of a slice, read from the top.
 -- And what the code asks of the slices. Assumes nothing.
-use Rattle.std.specs.Prelude.{ℕ, zero, suc, ◌+◌, ◌*◌, ◌/◌, ◌%◌, ◌<◌, ◌≤◌, cond, List, [], ◌∷◌, eqb, ltb, length, get_or}
+use Rattle.std.specs.Prelude.{ℕ, zero, suc, ◌+◌, ◌*◌, ◌/◌, ◌%◌, ◌≤◌, true, false, cond, List, [], ◌∷◌, eqb, length, get_or, Option as CodeOption, Some, None}
 use Rattle.std.proofs.Math.Option.{Option, none, some}
 use Rattle.reader.specs.Token.{Stop, close, close_list, close_curly, bar, double_bar, comma, end_mark}
 use Rattle.reader.specs.Ops.{Pre, fx, fy, Inf, xfx, xfy, yfx}
-use Rattle.reader.specs.Tree.{packed}
 use Rattle.reader.specs.Machine as M
 use Rattle.reader.specs.Machine.{Node, nd, Out, in_call, in_list, Bracket, top, in_round, in_curly, in_seq, in_tail, op, Frame, waiting, opened, Frames, State, want, pend, begun, have, dead, done, squares, braces, Red, red, emit, act_of, act_if, seen_name, seen_number, seen_var_or_string, seen_round, seen_square, seen_brace, seen_stop, laid, size, Numbered}
 use Rattle.reader.specs.declared.machine.Spot.{Spot}
+use Rattle.reader.specs.declared.machine.Tag.{Tag}
+use Rattle.reader.specs.declared.machine.Tag.TheVariants.{Prefix as PrefixTag, Infix as InfixTag, Top as TopTag, Round as RoundTag, Curly as CurlyTag, Call as CallTag, List as ListTag, Tail as TailTag}
 use Rattle.reader.specs.declared.machine.Stop.{Stop as CodeStop}
 use Rattle.reader.specs.declared.machine.Stop.TheVariants.{Close, CloseList, CloseCurly, Bar, DoubleBar, Comma, EndMark}
 use Rattle.reader.specs.declared.roles.Prefix.{Prefix}
-use Rattle.reader.specs.declared.roles.Prefix.TheVariants.{Absent as NoPrefix, Fx, Fy}
+use Rattle.reader.specs.declared.roles.Prefix.TheVariants.{Fx, Fy}
 use Rattle.reader.specs.declared.roles.Infix.{Infix}
-use Rattle.reader.specs.declared.roles.Infix.TheVariants.{Absent as NoInfix, Xfx, Xfy, Yfx}
+use Rattle.reader.specs.declared.roles.Infix.TheVariants.{Xfx, Xfy, Yfx}
 use Rattle.reader.specs.declared.machine.Sight.{Sight}
 use Rattle.reader.specs.declared.machine.Sight.TheVariants.{Name, Number, VarOrString, Round, Square, Brace, Stop as Stops}
-use Rattle.reader.specs.declared.machine.Halt.{Halt}
-use Rattle.reader.specs.declared.machine.Halt.TheVariants.{Goes, Stopped}
 use Rattle.reader.specs.declared.machine.Shape.{Shape}
 use Rattle.reader.specs.declared.machine.Shape.TheVariants.{Squares, Braces}
 use Rattle.reader.specs.declared.machine.Mode.{Mode}
 use Rattle.reader.specs.declared.machine.Mode.TheVariants.{Want, Pend, Begun, Have, Dead, Done}
 
 -- A frame's word: tag (3 bits), token index (16), priority or place number (16), bound.
-abbrev pub tag_of : ℕ → ℕ
-tag_of w = w % 8
-
 abbrev pub index_of : ℕ → ℕ
 index_of w = w / 8 % 65536
 
@@ -36,45 +32,30 @@ prio_of w = w / 524288 % 65536
 abbrev pub bound_of : ℕ → ℕ
 bound_of w = w / 34359738368
 
--- The tags. Operators come first, then the brackets with a place of 1200, then those with places of 999.
-abbrev pub prefix_tag : ℕ
-prefix_tag = 0
+-- A tag's number is its place in the code's list: operators come first, then the brackets with a place of 1200, then those with places of 999.
+unfoldable pub tag_as : ℕ → Tag
+tag_as n =
+    cond (eqb n 0) PrefixTag
+    (cond (eqb n 1) InfixTag
+    (cond (eqb n 2) TopTag
+    (cond (eqb n 3) RoundTag
+    (cond (eqb n 4) CurlyTag
+    (cond (eqb n 5) CallTag
+    (cond (eqb n 6) ListTag
+    TailTag))))))
 
-abbrev pub infix_tag : ℕ
-infix_tag = 1
+abbrev pub tag_of : ℕ → Tag
+tag_of w = tag_as (w % 8)
 
-abbrev pub top_tag : ℕ
-top_tag = 2
-
-abbrev pub round_tag : ℕ
-round_tag = 3
-
-abbrev pub curly_tag : ℕ
-curly_tag = 4
-
-abbrev pub call_tag : ℕ
-call_tag = 5
-
-abbrev pub list_tag : ℕ
-list_tag = 6
-
-abbrev pub tail_tag : ℕ
-tail_tag = 7
-
-unfoldable pub bracket_as : ℕ → ℕ → ℕ → Bracket
-bracket_as t i c =
-    cond (eqb t top_tag) top
-    (cond (eqb t round_tag) in_round
-    (cond (eqb t curly_tag) (in_curly i)
-    (cond (eqb t call_tag) (in_seq in_call i c)
-    (cond (eqb t list_tag) (in_seq in_list i c)
-    (in_tail i c)))))
-
-unfoldable pub frame_as : ℕ → ℕ → ℕ → ℕ → Frame
-frame_as t i q b = cond (ltb infix_tag t) (opened (bracket_as t i q)) (waiting (op i (eqb t infix_tag) q b))
-
-abbrev pub bracket_of : ℕ → Bracket
-bracket_of w = bracket_as (tag_of w) (index_of w) (prio_of w)
+unfoldable pub frame_as : Tag → ℕ → ℕ → ℕ → Frame
+frame_as PrefixTag i q b = waiting (op i false q b)
+frame_as InfixTag i q b = waiting (op i true q b)
+frame_as TopTag i q b = opened top
+frame_as RoundTag i q b = opened in_round
+frame_as CurlyTag i q b = opened (in_curly i)
+frame_as CallTag i q b = opened (in_seq in_call i q)
+frame_as ListTag i q b = opened (in_seq in_list i q)
+frame_as TailTag i q b = opened (in_tail i q)
 
 unfoldable pub frame_of : ℕ → Frame
 frame_of w = frame_as (tag_of w) (index_of w) (prio_of w) (bound_of w)
@@ -95,27 +76,18 @@ out_of ns (suc n) = node_of (get_or ns n 0) ∷ out_of ns n
 abbrev pub red_of : List ℕ → List ℕ → Spot → Red
 red_of st ns s = red (frames_of st s.depth) (out_of ns s.count)
 
--- the node of an operator's frame
-unfoldable pub emit_f : Frame → Node
-emit_f (waiting o) = emit packed o
-emit_f (opened br) = nd 0 0
-
--- what a stop does at the bracket w, with s below it
-abbrev pub ends_at : Stop → List ℕ → List ℕ → Spot → ℕ → State
-ends_at x st ns s w = act_if packed (act_of x (bracket_of w)) (frames_of st s.depth) (out_of ns s.count)
-
 -- Tokens and roles
 
-unfoldable pub pre_of : Prefix → Option Pre
-pre_of NoPrefix = none
-pre_of (Fx p) = some (fx p)
-pre_of (Fy p) = some (fy p)
+unfoldable pub pre_of : CodeOption Prefix → Option Pre
+pre_of None = none
+pre_of (Some (Fx p)) = some (fx p)
+pre_of (Some (Fy p)) = some (fy p)
 
-unfoldable pub inf_of : Infix → Option Inf
-inf_of NoInfix = none
-inf_of (Xfx p) = some (xfx p)
-inf_of (Xfy p) = some (xfy p)
-inf_of (Yfx p) = some (yfx p)
+unfoldable pub inf_of : CodeOption Infix → Option Inf
+inf_of None = none
+inf_of (Some (Xfx p)) = some (xfx p)
+inf_of (Some (Xfy p)) = some (xfy p)
+inf_of (Some (Yfx p)) = some (yfx p)
 
 unfoldable pub stop_as : CodeStop → Stop
 stop_as Close = close
@@ -126,12 +98,12 @@ stop_as DoubleBar = double_bar
 stop_as Comma = comma
 stop_as EndMark = end_mark
 
-unfoldable pub halt_of : Halt → Option Stop
-halt_of Goes = none
-halt_of (Stopped x) = some (stop_as x)
+unfoldable pub halt_of : CodeOption CodeStop → Option Stop
+halt_of None = none
+halt_of (Some x) = some (stop_as x)
 
 unfoldable pub sight_of : Sight → M.Sight
-sight_of (Name e m p q) = seen_name e m (pre_of p) (inf_of q)
+sight_of (Name e r) = seen_name e r.minus (pre_of r.prefix) (inf_of r.«infix»)
 sight_of (Number s low) = seen_number s low
 sight_of VarOrString = seen_var_or_string
 sight_of (Round ct) = seen_round ct
@@ -147,7 +119,7 @@ shape_of Braces = braces
 
 unfoldable pub state_of : Mode → List ℕ → List ℕ → State
 state_of (Want s) st ns = want (frames_of st s.depth) (out_of ns s.count)
-state_of (Pend s p) st ns = pend p.index p.end p.minus (pre_of p.pre) (inf_of p.inf) (frames_of st s.depth) (out_of ns s.count)
+state_of (Pend s p) st ns = pend p.index p.end p.roles.minus (pre_of p.roles.prefix) (inf_of p.roles.«infix») (frames_of st s.depth) (out_of ns s.count)
 state_of (Begun s h i) st ns = begun (shape_of h) i (frames_of st s.depth) (out_of ns s.count)
 state_of (Have s) st ns = have (frames_of st s.depth) (out_of ns s.count)
 state_of Dead st ns = dead
@@ -160,11 +132,6 @@ pub record Room (st ns : List ℕ) (d n k : ℕ) : Type 0 where
   pub frames : d + n + k ≤ length st
   pub nodes : d + n + k ≤ length ns
 
--- what fits a word
-pub record Small (t b : ℕ) : Type 0 where
-  pub tag : t < 8
-  pub bound : b ≤ 65536
-
 -- the most that a frame counts for: 01's 1,024 tokens
 abbrev pub most : ℕ
 most = 1024
@@ -173,11 +140,6 @@ most = 1024
 pub record Held (st ns : List ℕ) (d n k : ℕ) : Type 0 where
   pub room : Room st ns d n k
   pub places : Numbered most (frames_of st d)
-
--- a bracket whose places can be counted
-pub record Counts (w : ℕ) : Type 0 where
-  pub bracket : infix_tag < tag_of w
-  pub few : size (opened (bracket_of w)) ≤ most
 
 -- how many words more a token may take: the end mark takes none
 unfoldable pub stop_takes : CodeStop → ℕ
@@ -190,7 +152,7 @@ stop_takes Comma = 1
 stop_takes EndMark = 0
 
 unfoldable pub takes : Sight → ℕ
-takes (Name e m p q) = 1
+takes (Name e r) = 1
 takes (Number s low) = 1
 takes VarOrString = 1
 takes (Round ct) = 1

@@ -2,6 +2,7 @@ pub mod Token
 pub mod Ops
 pub mod Admitted
 pub mod Tree
+pub mod Kinds
 pub mod Grammar
 pub mod Fault
 pub mod Clause

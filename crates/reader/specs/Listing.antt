@@ -1,6 +1,6 @@
 -- One line of the listing. 01: "The listing prints source spellings: name(x,y) for kinds 2 to 4, the Comma as ',' in quotes, lists as [a,b|T], curly as
 -- {a}, kinds 8 and 9 as [] and {}." Definitions only.
-use Rattle.std.specs.Prelude.{ℕ, ◌+◌, ◌-◌, ◌*◌, ◌/◌, ◌%◌, ◌<◌, ◌≤◌, ◌≡◌, cond, List, [], ◌∷◌, ◌++◌, eqb, leb, length, get_or, take}
+use Rattle.std.specs.Prelude.{ℕ, ◌+◌, ◌-◌, ◌*◌, ◌/◌, ◌%◌, ◌<◌, ◌≤◌, ◌≡◌, cond, List, [], ◌∷◌, ◌++◌, eqb, leb, length, get_or, take, Option, Some, None}
 use Rattle.std.proofs.lemmas.List.Edits.{sets}
 use Rattle.lexer.specs.Chars.{single_quote, open_paren, close_paren, comma, open_bracket, close_bracket, open_brace, bar, close_brace}
 use Rattle.lexer.specs.Cursor.{part, longest}
@@ -11,8 +11,6 @@ use Rattle.reader.specs.declared.listing.Shape.{Shape}
 use Rattle.reader.specs.declared.listing.Shape.TheVariants.{Word, Negative, Call, Square, Tail, Curly}
 use Rattle.reader.specs.declared.listing.Before.{Before}
 use Rattle.reader.specs.declared.listing.Root.{Root}
-use Rattle.reader.specs.declared.listing.Listed.{Listed}
-use Rattle.reader.specs.declared.listing.Listed.TheVariants.{Line, NoRoom}
 
 -- how a node of the kind is printed; kinds 8 and 9 as a list and a curly term with nothing inside
 unfoldable pub shape_of : NodeKind → Shape
@@ -101,13 +99,17 @@ spelling s from to = cond (eqb (get_or s from 0) comma) quoted_comma (part from 
 unfoldable pub word : List ℕ → List ℕ → List ℕ → ℕ → ℕ → List ℕ
 word s starts ends i j = spelling s (get_or starts i 0) (get_or ends j 0)
 
+-- the bytes of the line; none where it is longer than the slice
+abbrev pub Listed : Type 0
+Listed = Option ℕ
+
 -- what the call answers and what it leaves in the slice
 pub data Outcome : Type 0 where
   leaves : Listed → List ℕ → Outcome
 
 -- the line at the front of the slice d, if it fits; else d stays as it was
 unfoldable pub line_outcome : List ℕ → List ℕ → Outcome
-line_outcome bs d = cond (leb (length bs) (length d)) (leaves (Line (length bs)) (sets d 0 bs)) (leaves NoRoom d)
+line_outcome bs d = cond (leb (length bs) (length d)) (leaves (Some (length bs)) (sets d 0 bs)) (leaves None d)
 
 -- ---- what the calls ask
 
@@ -223,7 +225,7 @@ module _ (word : ℕ → ℕ → List ℕ) where
   own_all (i ∷ p ∷ ns) = own i p + own_all ns
 
 unfoldable pub measured : ℕ → ℕ → Listed
-measured room n = cond (leb n room) (Line n) NoRoom
+measured room n = cond (leb n room) (Some n) None
 
 -- numbers of nodes, two each, over so many tokens
 pub data Nodes (tokens : ℕ) : List ℕ → Type 0 where

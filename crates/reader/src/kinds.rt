@@ -1,23 +1,54 @@
-// The kinds of nodes: document 01's "Tree".
-pub(crate) const PLAIN: u16 = 0;
+// The kinds of nodes: document 01's "Tree", in its order.
+ghost use Rattle.std.specs.Prelude.{◌≡◌, ◌≤◌};
+ghost use Rattle.reader.specs.Tree.{packed};
+ghost use Rattle.reader.specs.Kinds.{kind_as, KindOf};
 
-pub(crate) const NEGATIVE: u16 = 1;
+#[derive(Clone, Copy)]
+pub enum NodeKind {
+    Plain,
+    Negative,
+    Call,
+    Prefix,
+    Infix,
+    List,
+    ListTail,
+    Curly,
+    EmptyList,
+    EmptyCurly,
+}
 
-pub(crate) const CALL: u16 = 2;
+// A number that no kind has.
+#[derive(Clone, Copy)]
+pub struct UnknownKind;
 
-pub(crate) const PREFIX: u16 = 3;
+impl TryFrom<usize> for NodeKind {
+    type Error = UnknownKind;
 
-pub(crate) const INFIX: u16 = 4;
+    ghost try_from_gives = { KindOf };
 
-pub(crate) const LIST: u16 = 5;
-
-pub(crate) const LIST_TAIL: u16 = 6;
-
-pub(crate) const CURLY: u16 = 7;
-
-pub(crate) const EMPTY_LIST: u16 = 8;
-
-pub(crate) const EMPTY_CURLY: u16 = 9;
+    fn try_from(number: usize) -> Result<NodeKind, UnknownKind> {
+        match number {
+            0 => Ok(NodeKind::Plain),
+            1 => Ok(NodeKind::Negative),
+            2 => Ok(NodeKind::Call),
+            3 => Ok(NodeKind::Prefix),
+            4 => Ok(NodeKind::Infix),
+            5 => Ok(NodeKind::List),
+            6 => Ok(NodeKind::ListTail),
+            7 => Ok(NodeKind::Curly),
+            8 => Ok(NodeKind::EmptyList),
+            9 => Ok(NodeKind::EmptyCurly),
+            _ => Err(UnknownKind),
+        }
+    }
+}
 
 // A node's second number is its kind times this, plus its arity.
 pub(crate) const KIND_UNIT: u16 = 1024;
+
+pub(crate) fn packed(kind: NodeKind, arity: u16) -> u16
+    requires { arity ≤ 1024 }
+    ensures { result ≡ packed (kind_as kind) arity }
+{
+    (kind as u16) * KIND_UNIT + arity
+}

@@ -10,5 +10,6 @@ mod operators;
 mod ops;
 mod roles;
 
-pub use clause::{ClauseAnswer, read_clause};
-pub use line_call::{LineAnswer, list_clause, span_tokens};
+pub use clause::{ClauseRead, read_clause};
+pub use kinds::{NodeKind, UnknownKind};
+pub use line_call::{LineRead, list_clause, span_tokens};

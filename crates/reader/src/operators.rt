@@ -2,21 +2,20 @@
 ghost use Rattle.std.specs.Prelude.{◌≡◌, ◌<◌};
 ghost use Rattle.reader.specs.Names.{entry_of, entry_at};
 
-// The kinds of operators. Numbers and no enum: the table is one statement for each entry then, not two, and the walk of it costs a fifth.
-pub(crate) const XFX: u8 = 0;
-
-pub(crate) const XFY: u8 = 1;
-
-pub(crate) const YFX: u8 = 2;
-
-pub(crate) const FY: u8 = 3;
-
-pub(crate) const FX: u8 = 4;
+// ISO 6.3.4.3: the kinds of operators.
+#[derive(Clone, Copy)]
+pub enum OperatorKind {
+    Xfx,
+    Xfy,
+    Yfx,
+    Fy,
+    Fx,
+}
 
 // An operator: the bytes of its name, spaces after a shorter one; its kind; its priority. In this order it has no gaps, and the compiler, which builds the
 // table anew at each use, puts several of these into one store.
 #[derive(Clone, Copy)]
-pub struct Operator(pub u8, pub u8, pub u8, pub u8, pub u16);
+pub struct Operator(pub u8, pub u8, pub u8, pub OperatorKind, pub u16);
 
 pub(crate) fn entry(place: usize) -> Operator
     requires { place < 39 }
@@ -26,43 +25,43 @@ pub(crate) fn entry(place: usize) -> Operator
 }
 
 const OPERATORS: [Operator; 39] = [
-    Operator(b':', b'-', b' ', XFX, 1200),
-    Operator(b'-', b'-', b'>', XFX, 1200),
-    Operator(b':', b'-', b' ', FX, 1200),
-    Operator(b'?', b'-', b' ', FX, 1200),
-    Operator(b';', b' ', b' ', XFY, 1100),
-    Operator(b'-', b'>', b' ', XFY, 1050),
-    Operator(b',', b' ', b' ', XFY, 1000),
-    Operator(b'\\', b'+', b' ', FY, 900),
-    Operator(b'=', b' ', b' ', XFX, 700),
-    Operator(b'\\', b'=', b' ', XFX, 700),
-    Operator(b'=', b'=', b' ', XFX, 700),
-    Operator(b'\\', b'=', b'=', XFX, 700),
-    Operator(b'@', b'<', b' ', XFX, 700),
-    Operator(b'@', b'=', b'<', XFX, 700),
-    Operator(b'@', b'>', b' ', XFX, 700),
-    Operator(b'@', b'>', b'=', XFX, 700),
-    Operator(b'=', b'.', b'.', XFX, 700),
-    Operator(b'i', b's', b' ', XFX, 700),
-    Operator(b'=', b':', b'=', XFX, 700),
-    Operator(b'=', b'\\', b'=', XFX, 700),
-    Operator(b'<', b' ', b' ', XFX, 700),
-    Operator(b'=', b'<', b' ', XFX, 700),
-    Operator(b'>', b' ', b' ', XFX, 700),
-    Operator(b'>', b'=', b' ', XFX, 700),
-    Operator(b'+', b' ', b' ', YFX, 500),
-    Operator(b'-', b' ', b' ', YFX, 500),
-    Operator(b'/', b'\\', b' ', YFX, 500),
-    Operator(b'\\', b'/', b' ', YFX, 500),
-    Operator(b'*', b' ', b' ', YFX, 400),
-    Operator(b'/', b' ', b' ', YFX, 400),
-    Operator(b'/', b'/', b' ', YFX, 400),
-    Operator(b'r', b'e', b'm', YFX, 400),
-    Operator(b'm', b'o', b'd', YFX, 400),
-    Operator(b'<', b'<', b' ', YFX, 400),
-    Operator(b'>', b'>', b' ', YFX, 400),
-    Operator(b'*', b'*', b' ', XFX, 200),
-    Operator(b'^', b' ', b' ', XFY, 200),
-    Operator(b'-', b' ', b' ', FY, 200),
-    Operator(b'\\', b' ', b' ', FY, 200),
+    Operator(b':', b'-', b' ', OperatorKind::Xfx, 1200),
+    Operator(b'-', b'-', b'>', OperatorKind::Xfx, 1200),
+    Operator(b':', b'-', b' ', OperatorKind::Fx, 1200),
+    Operator(b'?', b'-', b' ', OperatorKind::Fx, 1200),
+    Operator(b';', b' ', b' ', OperatorKind::Xfy, 1100),
+    Operator(b'-', b'>', b' ', OperatorKind::Xfy, 1050),
+    Operator(b',', b' ', b' ', OperatorKind::Xfy, 1000),
+    Operator(b'\\', b'+', b' ', OperatorKind::Fy, 900),
+    Operator(b'=', b' ', b' ', OperatorKind::Xfx, 700),
+    Operator(b'\\', b'=', b' ', OperatorKind::Xfx, 700),
+    Operator(b'=', b'=', b' ', OperatorKind::Xfx, 700),
+    Operator(b'\\', b'=', b'=', OperatorKind::Xfx, 700),
+    Operator(b'@', b'<', b' ', OperatorKind::Xfx, 700),
+    Operator(b'@', b'=', b'<', OperatorKind::Xfx, 700),
+    Operator(b'@', b'>', b' ', OperatorKind::Xfx, 700),
+    Operator(b'@', b'>', b'=', OperatorKind::Xfx, 700),
+    Operator(b'=', b'.', b'.', OperatorKind::Xfx, 700),
+    Operator(b'i', b's', b' ', OperatorKind::Xfx, 700),
+    Operator(b'=', b':', b'=', OperatorKind::Xfx, 700),
+    Operator(b'=', b'\\', b'=', OperatorKind::Xfx, 700),
+    Operator(b'<', b' ', b' ', OperatorKind::Xfx, 700),
+    Operator(b'=', b'<', b' ', OperatorKind::Xfx, 700),
+    Operator(b'>', b' ', b' ', OperatorKind::Xfx, 700),
+    Operator(b'>', b'=', b' ', OperatorKind::Xfx, 700),
+    Operator(b'+', b' ', b' ', OperatorKind::Yfx, 500),
+    Operator(b'-', b' ', b' ', OperatorKind::Yfx, 500),
+    Operator(b'/', b'\\', b' ', OperatorKind::Yfx, 500),
+    Operator(b'\\', b'/', b' ', OperatorKind::Yfx, 500),
+    Operator(b'*', b' ', b' ', OperatorKind::Yfx, 400),
+    Operator(b'/', b' ', b' ', OperatorKind::Yfx, 400),
+    Operator(b'/', b'/', b' ', OperatorKind::Yfx, 400),
+    Operator(b'r', b'e', b'm', OperatorKind::Yfx, 400),
+    Operator(b'm', b'o', b'd', OperatorKind::Yfx, 400),
+    Operator(b'<', b'<', b' ', OperatorKind::Yfx, 400),
+    Operator(b'>', b'>', b' ', OperatorKind::Yfx, 400),
+    Operator(b'*', b'*', b' ', OperatorKind::Xfx, 200),
+    Operator(b'^', b' ', b' ', OperatorKind::Xfy, 200),
+    Operator(b'-', b' ', b' ', OperatorKind::Fy, 200),
+    Operator(b'\\', b' ', b' ', OperatorKind::Fy, 200),
 ];

@@ -1,15 +1,14 @@
 // The roles of a name, by the table of operators. A name is looked for at one place of the table for each role: its bytes say which.
 ghost use Rattle.std.specs.Prelude.{◌≡◌, ◌<◌, ◌-◌, take, drop};
-ghost use Rattle.reader.specs.Token.{same_text};
 ghost use Rattle.reader.specs.Ops.{operators};
 ghost use Rattle.reader.specs.Roles.{roles_of};
 ghost use Rattle.reader.specs.Names.{Part, spelt, entry_at, prefix_in, infix_in, PrefixPlace, InfixPlace, starts_operator};
 
-use crate::operators::{FX, FY, Operator, XFX, XFY, entry};
+use crate::operators::{Operator, OperatorKind, entry};
 use crate::roles::{Infix, NO_ROLES, Prefix, Roles};
 
 // The bytes of a name of one to three, spaces after a shorter one.
-#[derive(Clone, Copy)]
+#[derive(Clone, Copy, PartialEq, Eq)]
 pub struct ShortName {
     pub first: u8,
     pub second: u8,
@@ -65,7 +64,7 @@ fn short_roles(name: ShortName) -> Roles
     if !starts_operator(name.first) {
         return NO_ROLES;
     }
-    let minus = same_name(name, MINUS);
+    let minus = name == MINUS;
     let prefix = prefix_at(prefix_place(name), name);
     let infix = infix_at(infix_place(name), name);
     Roles {
@@ -80,14 +79,13 @@ fn starts_operator(first: u8) -> bool
     ensures { result ≡ starts_operator first }
 {
     match first {
-        b'i' => true,
-        b'm' => true,
-        b'r' => true,
+        b'i' | b'm' | b'r' => true,
         _ => first < b'a',
     }
 }
 
-// Where the table is looked at for a prefix operator. A place that serves no name is 0.
+// Where the table is looked at for a prefix operator. A place that serves no name is 0, an infix operator's: the entry there gives no prefix
+// role, so no Option is needed.
 fn prefix_place(name: ShortName) -> usize
     ensures { PrefixPlace name result }
 {
@@ -95,12 +93,12 @@ fn prefix_place(name: ShortName) -> usize
     PREFIXES[slot % 24] as usize
 }
 
-// Of the names of infix operators only `**` falls into a slot of these.
+// A table and no map, which would need a heap. Of the names of infix operators only `**` falls into a slot of these.
 const PREFIXES: [u8; 24] = [
     0, 7, 0, 0, 0, 0, 0, 0, 0, 0, 0, 2, 0, 0, 0, 0, 38, 0, 37, 0, 0, 3, 0, 0,
 ];
 
-// Where the table is looked at for an infix operator.
+// Where the table is looked at for an infix operator, in the same way.
 fn infix_place(name: ShortName) -> usize
     ensures { InfixPlace name result }
 {
@@ -123,63 +121,46 @@ const INFIXES: [[u8; 8]; 8] = [
 const NO_PREFIX: usize = 0;
 
 // The role that the table's entry at a place gives to a name.
-fn prefix_at(place: usize, name: ShortName) -> Prefix
+fn prefix_at(place: usize, name: ShortName) -> Option<Prefix>
     requires { place < 39 }
     ensures { result ≡ prefix_in (entry_at place) (spelt name) }
 {
     if place == NO_PREFIX {
-        return Prefix::Absent;
+        return None;
     }
     let Operator(first, second, third, kind, priority) = entry(place);
-    if !same_name(
-        name,
-        ShortName {
-            first,
-            second,
-            third,
-        },
-    ) {
-        return Prefix::Absent;
+    let named = ShortName {
+        first,
+        second,
+        third,
+    };
+    if name != named {
+        return None;
     }
     match kind {
-        FX => Prefix::Fx(priority),
-        FY => Prefix::Fy(priority),
-        _ => Prefix::Absent,
+        OperatorKind::Fx => Some(Prefix::Fx(priority)),
+        OperatorKind::Fy => Some(Prefix::Fy(priority)),
+        _ => None,
     }
 }
 
-fn infix_at(place: usize, name: ShortName) -> Infix
+fn infix_at(place: usize, name: ShortName) -> Option<Infix>
     requires { place < 39 }
     ensures { result ≡ infix_in (entry_at place) (spelt name) }
 {
     let Operator(first, second, third, kind, priority) = entry(place);
-    if !same_name(
-        name,
-        ShortName {
-            first,
-            second,
-            third,
-        },
-    ) {
-        return Infix::Absent;
+    let named = ShortName {
+        first,
+        second,
+        third,
+    };
+    if name != named {
+        return None;
     }
     match kind {
-        FX => Infix::Absent,
-        FY => Infix::Absent,
-        XFX => Infix::Xfx(priority),
-        XFY => Infix::Xfy(priority),
-        _ => Infix::Yfx(priority),
+        OperatorKind::Xfx => Some(Infix::Xfx(priority)),
+        OperatorKind::Xfy => Some(Infix::Xfy(priority)),
+        OperatorKind::Yfx => Some(Infix::Yfx(priority)),
+        _ => None,
     }
-}
-
-fn same_name(x: ShortName, y: ShortName) -> bool
-    ensures { result ≡ same_text (spelt x) (spelt y) }
-{
-    if x.first != y.first {
-        return false;
-    }
-    if x.second != y.second {
-        return false;
-    }
-    x.third == y.third
 }

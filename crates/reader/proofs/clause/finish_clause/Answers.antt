@@ -10,14 +10,15 @@ use Rattle.lexer.specs.declared.cursor.Cursor.{Cursor}
 use Rattle.lexer.specs.declared.refusal.Refusal.TheVariants.{NoReading}
 use Rattle.reader.specs.Weight.{weight}
 use Rattle.reader.specs.Layout.{out_of, state_of}
-use Rattle.reader.specs.Gather.{came, nodes_of, written, by_nodes, Finished, Finishing}
+use Rattle.reader.specs.Gather.{came, nodes_of, written, by_nodes, Finished, Finishing, Verdict}
 use Rattle.reader.specs.declared.machine.Spot.{Spot}
 use Rattle.reader.specs.declared.machine.Pending.{Pending}
 use Rattle.reader.specs.declared.machine.Shape.{Shape}
 use Rattle.reader.specs.declared.machine.Mode.{Mode}
-use Rattle.reader.specs.declared.clause.Verdict.{Verdict}
+use Rattle.reader.specs.declared.clause.Failure.{Failure}
 use Rattle.reader.proofs.Turns.{length_out}
 use Rattle.reader.proofs.clause.finish_clause.Goals as goal
+use Rattle.std.specs.Prelude.{Err}
 
 finished : (m : Mode) (st ns : List ℕ) (n : ℕ) → m ≡ Mode.Done n → Finishing m st ns → Finished n ns
 unfolding weight state_of
@@ -31,7 +32,7 @@ module _ (o : ℕ) (m : Mode) (e : Cursor) (st ns d : List ℕ) where
   unfolding nodes_of state_of by_nodes
   accepted n f r d' g = g ∙ sym (ap (λ (x : Mode). by_nodes d o e (nodes_of (state_of x st ns))) f)
 
-  module _ (r : Verdict) (g : r ≡ Verdict.Refused (fault NoReading o)) where
+  module _ (r : Verdict) (g : r ≡ Err (Failure.At (fault NoReading o))) where
     wants : (p : Spot) → m ≡ Mode.Want p → came r d ≡ by_nodes d o e (nodes_of (state_of m st ns))
     unfolding nodes_of state_of by_nodes
     wants p f = cc
@@ -57,20 +58,8 @@ ruleset ways = (finished, accepted, wants, pends, begins, has, died, rules)
 pub returns-in-Done : goal.returns-in-Done
 returns-in-Done c = search ways
 
-pub returns-in-Want : goal.returns-in-Want
-returns-in-Want c = search ways
-
-pub returns-in-Pend : goal.returns-in-Pend
-returns-in-Pend c = search ways
-
-pub returns-in-Begun : goal.returns-in-Begun
-returns-in-Begun c = search ways
-
-pub returns-in-Have : goal.returns-in-Have
-returns-in-Have c = search ways
-
-pub returns-in-Dead : goal.returns-in-Dead
-returns-in-Dead c = search ways
+pub returns-in_default : goal.returns-in_default
+returns-in_default c = search ways
 
 pub write_clause-requires : goal.write_clause-requires
 write_clause-requires c = search ways

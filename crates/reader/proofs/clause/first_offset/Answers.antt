@@ -12,10 +12,11 @@ use Rattle.lexer.specs.declared.cursor.Cursor.{Cursor}
 use Rattle.lexer.specs.declared.refusal.Fault.{Fault}
 use Rattle.lexer.specs.declared.token.Source.TheVariants.{File}
 use Rattle.reader.specs.Machine.{State, start, is_dead}
+use Rattle.reader.specs.Layout.{state_of}
 use Rattle.reader.specs.Clause.{is_end, start_of, first_offset}
-use Rattle.reader.specs.Gather.{Result, finished, halted, paused, run_on, clause_run, result_of, Beginning}
-use Rattle.reader.specs.declared.machine.Mode.{Mode}
-use Rattle.reader.specs.declared.clause.Machined.{Machined}
+use Rattle.reader.specs.Gather.{Result, finished, halted, paused, run_on, clause_run, taken_as, Machined, result_of, Beginning}
+use Rattle.reader.specs.declared.clause.Taken.{Taken}
+use Rattle.std.specs.Prelude.{Ok, Err}
 use Rattle.reader.proofs.clause.first_offset.Goals as goal
 
 beginning : (s : List ℕ) (c : Cursor) (st ns : List ℕ) → valid (length s) c ≡ true → length st ≡ 2 → length ns ≡ 2 → Beginning s c 1 st ns
@@ -43,25 +44,25 @@ module _ (s : List ℕ) (c : Cursor) (st ns : List ℕ) (r : Machined) (e : resu
   told : (y : Machined) → r ≡ y → taken (result_of y st ns) ≡ first_offset s c
   told y g = ap (λ (x : Machined). taken (result_of x st ns)) (sym g) ∙ ap taken e ∙ one_token s c
 
-  stopped : (w : Fault) → r ≡ Machined.Stopped w → 0 ≡ first_offset s c
+  stopped : (w : Fault) → r ≡ Err w → 0 ≡ first_offset s c
   unfolding taken result_of
-  stopped w g = told (Machined.Stopped w) g
+  stopped w g = told (Err w) g
 
-  pauses : (a : ℕ) (m : Mode) (d : Cursor) → r ≡ Machined.Paused a m d → a ≡ first_offset s c
-  unfolding taken result_of
-  pauses a m d g = told (Machined.Paused a m d) g
+  taken-is : (t : Taken) → taken (result_of (Ok t) st ns) ≡ t.latest
+  unfolding taken taken_as result_of
+  taken-is t = go t.whole
+    where
+      go : (b : Bool) → taken (taken_as b t.latest (state_of t.mode st ns) t.next) ≡ t.latest
+      go true = refl
+      go false = refl
 
-  ends : (a : ℕ) (m : Mode) (d : Cursor) → r ≡ Machined.Whole a m d → a ≡ first_offset s c
-  unfolding taken result_of
-  ends a m d g = told (Machined.Whole a m d) g
+  takes : (t : Taken) → r ≡ Ok t → t.latest ≡ first_offset s c
+  takes t g = sym (taken-is t) ∙ told (Ok t) g
 
-ruleset ways = (beginning, stopped, pauses, ends, rules)
+ruleset ways = (beginning, stopped, takes, rules)
 
-pub returns-in-Stopped : goal.returns-in-Stopped
-returns-in-Stopped c = search ways
+pub returns-in-Ok : goal.returns-in-Ok
+returns-in-Ok c = search ways
 
-pub returns-in-Paused : goal.returns-in-Paused
-returns-in-Paused c = search ways
-
-pub returns-in-Whole : goal.returns-in-Whole
-returns-in-Whole c = search ways
+pub returns-in-Err : goal.returns-in-Err
+returns-in-Err c = search ways

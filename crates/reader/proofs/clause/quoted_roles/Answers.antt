@@ -11,11 +11,9 @@ use lib.ListN.{length, take, drop}
 use lib.Seq.{sets, length-sets}
 use Rattle.lexer.specs.Quoted.{Quoted, bytes_of}
 use Rattle.lexer.specs.Refusal.{fault}
-use Rattle.lexer.specs.Text.{Counted, counts, counted_text, quoted_text}
+use Rattle.lexer.specs.Text.{Counted, counts, counted_text, quoted_text, QuotedAnswer}
 use Rattle.lexer.specs.declared.refusal.Fault.{Fault}
 use Rattle.lexer.specs.declared.refusal.Refusal.TheVariants.{NoRoom}
-use Rattle.lexer.specs.declared.text.QuotedAnswer.{QuotedAnswer}
-use Rattle.lexer.specs.declared.text.QuotedAnswer.TheVariants.{Read, Refused}
 use Rattle.lexer.proofs.Theorems.{quoted_decoded}
 use Rattle.reader.specs.Ops.{operators}
 use Rattle.reader.specs.Roles.{roles_of}
@@ -25,6 +23,7 @@ use Rattle.reader.specs.declared.roles.Roles.{Roles}
 use Rattle.reader.proofs.Finding.{no_roles, long_name}
 use Rattle.reader.proofs.Puts.{sets-front}
 use Rattle.reader.proofs.clause.quoted_roles.Goals as goal
+use Rattle.std.specs.declared.result.Result.TheVariants.{Ok, Err}
 
 -- the bytes bs were written to the front of d, which is d' now, and n were counted
 record Written (d bs d' : List ℕ) (n : ℕ) : Type 0 where
@@ -43,13 +42,13 @@ module _ (s : List ℕ) (at : ℕ) (q : QuotedAt s at) where
   module _ (d d' : List ℕ) (a : QuotedAnswer) (f : counts a d' ≡ quoted_text s at d) where
     -- the answer, by the room
     by_room : Bool → Counted
-    by_room b = cond b (counts (Read (length q.bytes)) (sets d 0 q.bytes)) (counts (Refused (fault NoRoom at)) d)
+    by_room b = cond b (counts (Ok (length q.bytes)) (sets d 0 q.bytes)) (counts (Err (fault NoRoom at)) d)
 
     by-room : counts a d' ≡ by_room (leb (length q.bytes) (length d))
     unfolding counted_text by_room
     by-room = f ∙ told d
 
-    module _ (n : ℕ) (e : a ≡ Read n) where
+    module _ (n : ℕ) (e : a ≡ Ok n) where
       written : Written d q.bytes d' n
       unfolding by_room
       written = go (leb (length q.bytes) (length d)) refl by-room
@@ -73,7 +72,7 @@ module _ (s : List ℕ) (at : ℕ) (q : QuotedAt s at) where
               cc (its_bytes, w.left, sets-front d q.bytes w.room)
 
     -- no operator has more than three bytes
-    no_operator : (w : Fault) → a ≡ Refused w → length d ≡ 3 → no_roles ≡ roles_of operators (quoted_bytes s at)
+    no_operator : (w : Fault) → a ≡ Err w → length d ≡ 3 → no_roles ≡ roles_of operators (quoted_bytes s at)
     unfolding by_room
     no_operator w e l = rw its_bytes (go (leb (length q.bytes) (length d)) refl by-room)
       where
@@ -85,11 +84,11 @@ module _ (s : List ℕ) (at : ℕ) (q : QuotedAt s at) where
 
 ruleset ways = (there, found, no_operator, rules)
 
-pub returns-in-Refused : goal.returns-in-Refused
-returns-in-Refused c = search ways
+pub returns-in-Err : goal.returns-in-Err
+returns-in-Err c = search ways
 
-pub returns-in-Read : goal.returns-in-Read
-returns-in-Read c = search ways
+pub returns-in-Ok : goal.returns-in-Ok
+returns-in-Ok c = search ways
 
 pub roles_of-requires : goal.roles_of-requires
 roles_of-requires c = search ways

@@ -18,7 +18,7 @@ use Rattle.reader.proofs.Sights.{Known, known, token-known, sight_known, pre_rol
 use Rattle.reader.proofs.clause.see_name.Goals as goal
 
 -- the roles by which a name is seen
-shown : (e : ℕ) (text : List ℕ) (x : Roles) → x ≡ roles_of operators text → sight_of (Name e x.minus x.prefix x.«infix») ≡ see operators (R.name text e)
+shown : (e : ℕ) (text : List ℕ) (x : Roles) → x ≡ roles_of operators text → sight_of (Name e x) ≡ see operators (R.name text e)
 unfolding sight_of see roles_of
 shown e text x f = cc (pre_role (prefix_of operators text), inf_role (infix_of operators text))
 
@@ -26,7 +26,7 @@ module _ (s : List ℕ) (c : Cursor) (t : lexer.Token) (d : Cursor) (r : NameFro
   it : Known s c t d
   it = known s c t d r.reads
 
-  sees : (x : Roles) → x ≡ roles_of operators (token_from s c).text → sight_of (Name d.offset x.minus x.prefix x.«infix») ≡ sight_from s c
+  sees : (x : Roles) → x ≡ roles_of operators (token_from s c).text → sight_of (Name d.offset x) ≡ sight_from s c
   unfolding terminal_as
   sees x e =
       shown d.offset _ x (e ∙ ap (λ (u : R.Token). roles_of operators u.text) (token-known s c t d it)) ∙ sight_known s c t d it R.Name r.name

@@ -87,9 +87,6 @@ ruleset ways = (variable, string, number, round, round_ct, square, brace, close,
 pub returns-in-Variable : goal.returns-in-Variable
 returns-in-Variable c = search ways
 
-pub returns-in-String : goal.returns-in-String
-returns-in-String c = search ways
-
 pub returns-in-Number : goal.returns-in-Number
 returns-in-Number c = search ways
 

@@ -1,11 +1,11 @@
 use borrow.Author.Rules.{rules}
-use Rattle.reader.proofs.clause.take_tokens.Invariants.{started, pauses, less, next_fits, room, stops, read_there, ends, again}
+use Rattle.reader.proofs.clause.take_tokens.Invariants.{started, pauses, room, stops, read_there, ends, again}
 use Rattle.reader.proofs.clause.take_tokens.Goals as goal
 
-ruleset ways = (started, pauses, less, next_fits, room, stops, read_there, ends, again, rules)
+ruleset ways = (started, pauses, room, stops, read_there, ends, again, rules)
 
-pub returns-in-Refused : goal.returns-in-Refused
-returns-in-Refused c = search ways
+pub returns-in-Err : goal.returns-in-Err
+returns-in-Err c = search ways
 
 pub returns-then-is_end : goal.returns-then-is_end
 returns-then-is_end c = search ways

@@ -6,26 +6,29 @@ use mathlib.Core.Bool.{Bool, true, false, cond}
 use mathlib.Core.List.{List}
 use native.Mathlib.Omega.{arith}
 use lib.ListN.{length}
-use Rattle.lexer.specs.Token.{next_token}
+use Rattle.lexer.specs.Token.{next_token, token_read, Answer}
 use Rattle.lexer.specs.declared.token.Source.TheVariants.{File}
 use Rattle.lexer.specs.declared.cursor.Cursor.{Cursor}
 use Rattle.lexer.specs.declared.refusal.Fault.{Fault}
 use Rattle.lexer.specs.declared.token.Token as lexer
-use Rattle.lexer.specs.declared.token.Answer.{Answer}
 use Rattle.reader.specs.Tree.{packed}
 use Rattle.reader.specs.Machine as M
 use Rattle.reader.specs.Machine.{is_dead}
 use Rattle.reader.specs.Layout.{state_of, sight_of, Ready}
 use Rattle.reader.specs.Clause.{is_end}
-use Rattle.reader.specs.Gather.{sight_from, ReadFrom, latest, dead_mode, clause_run, result_of, Taking}
+use Rattle.reader.specs.Gather.{sight_from, ReadFrom, latest, dead_mode, clause_run, taken_as, result_of, Taking}
 use Rattle.reader.specs.declared.machine.Mode.{Mode}
 use Rattle.reader.specs.declared.machine.Mode.TheVariants.{Want, Pend, Begun, Have, Dead, Done}
 use Rattle.reader.specs.declared.machine.Sight.{Sight}
-use Rattle.reader.specs.declared.clause.Machined.{Machined}
+use Rattle.std.specs.Prelude.{Ok, Err}
 use Rattle.reader.proofs.Sights.{known}
 use Rattle.reader.proofs.Size.{step-size}
 use Rattle.reader.proofs.Turns.{told-refused, next-valid, ready, takes_one, run-stop, run_last, run_more}
 use Rattle.reader.proofs.clause.take_tokens.Given as goal
+use Rattle.lexer.specs.Refusal.{refuse}
+use Rattle.lexer.specs.declared.token.TokenRead.{TokenRead}
+use Rattle.lexer.specs.declared.refusal.Refused.{Refused}
+use Rattle.std.specs.declared.result.Result.TheVariants.{Ok, Err}
 
 pub record Inv (s : List ℕ) (c₀ : Cursor) (from to f₀ : ℕ) (m₀ : Mode) (st₀ ns₀ : List ℕ) (c : Cursor) (i f : ℕ) (m : Mode) (st ns : List ℕ) : Type 0 where
   pub same : clause_run (to - from) from f₀ (state_of m₀ st₀ ns₀) s c₀ ≡ clause_run (to - i) i f (state_of m st ns) s c
@@ -47,8 +50,8 @@ dead-mode (Done n) st ns = refl
 
 -- the ways out of the loop and of a turn, over plain values: a is what the token call answered
 module _ (s : List ℕ) (c₀ : Cursor) (from to f₀ : ℕ) (m₀ : Mode) (st₀ ns₀ : List ℕ) (c : Cursor) (i f : ℕ) (m : Mode) (st ns : List ℕ) (v : Inv s c₀ from to f₀ m₀ st₀ ns₀ c i f m st ns) where
-  pub pauses : to ≤ i → result_of (Machined.Paused f m c) st ns ≡ clause_run (to - from) from f₀ (state_of m₀ st₀ ns₀) s c₀
-  unfolding result_of clause_run
+  pub pauses : to ≤ i → result_of (Ok (record { latest = f; mode = m; next = c; whole = false })) st ns ≡ clause_run (to - from) from f₀ (state_of m₀ st₀ ns₀) s c₀
+  unfolding result_of taken_as clause_run
   pauses h =
       let n : to - i ≡ 0 = omega arith in
       sym (v.same ∙ ap (λ (k : ℕ). clause_run k i f (state_of m st ns) s c) n)
@@ -58,12 +61,6 @@ module _ (s : List ℕ) (c₀ : Cursor) (from to f₀ : ℕ) (m₀ : Mode) (st�
     pub from-here : clause_run (to - from) from f₀ (state_of m₀ st₀ ns₀) s c₀ ≡ clause_run (suc (to - (i + 1))) i f (state_of m st ns) s c
     from-here = let n : to - i ≡ suc (to - (i + 1)) = omega arith in v.same ∙ ap (λ (k : ℕ). clause_run k i f (state_of m st ns) s c) n
 
-    pub less : to - (i + 1) < to - i
-    less = omega arith
-
-    pub next_fits : i + 1 < 65536
-    next_fits = omega (arith, v.taking.few)
-
     pub room : (k : Sight) → Ready m k st ns
     room k =
         let w = v.taking.words in
@@ -72,13 +69,19 @@ module _ (s : List ℕ) (c₀ : Cursor) (from to f₀ : ℕ) (m₀ : Mode) (st�
         ready st ns (to + 1) (omega (arith, v.taking.frames)) (omega (arith, v.taking.nodes)) (omega arith) m k o (omega arith) (omega arith)
 
     module _ (a : Answer) (e : a ≡ next_token File s c) where
-      pub stops : (x : Fault) (k : Cursor) → a ≡ Answer.Refused x k → result_of (Machined.Stopped x) st ns ≡ clause_run (to - from) from f₀ (state_of m₀ st₀ ns₀) s c₀
+      pub stops : (w : Refused) → a ≡ Err w → result_of (Err w.fault) st ns ≡ clause_run (to - from) from f₀ (state_of m₀ st₀ ns₀) s c₀
       unfolding result_of
-      stops x k g =
-          let r = told-refused s c v.taking.valid_cursor x k (sym e ∙ g) in
-          sym (from-here ∙ run-stop s c (to - (i + 1)) i f (state_of m st ns) x r)
+      stops w g =
+          let r = told-refused s c v.taking.valid_cursor w.fault w.cursor (sym e ∙ g) in
+          sym (from-here ∙ run-stop s c (to - (i + 1)) i f (state_of m st ns) w.fault r)
 
-      module _ (t : lexer.Token) (d : Cursor) (g : a ≡ Answer.Read t d) where
+      module _ (read : TokenRead) (g : a ≡ Ok read) where
+        abbrev t : lexer.Token
+        t = read.token
+
+        abbrev d : Cursor
+        d = read.next
+
         pub read_there : ReadFrom s c t d
         read_there = record { reads = sym e ∙ g }
 
@@ -91,8 +94,8 @@ module _ (s : List ℕ) (c₀ : Cursor) (from to f₀ : ℕ) (m₀ : Mode) (st�
           behind : state_of r st' ns' ≡ M.step packed (state_of m st ns) i (sight_from s c)
           behind = y ∙ ap (M.step packed (state_of m st ns) i) q
 
-          pub ends : b ≡ true → result_of (Machined.Whole f' r d) st' ns' ≡ clause_run (to - from) from f₀ (state_of m₀ st₀ ns₀) s c₀
-          unfolding result_of
+          pub ends : b ≡ true → result_of (Ok (record { latest = f'; mode = r; next = d; whole = true })) st' ns' ≡ clause_run (to - from) from f₀ (state_of m₀ st₀ ns₀) s c₀
+          unfolding result_of taken_as
           ends l =
               let p = known s c t d (sym e ∙ g) in
               rw (o, behind) (sym (from-here ∙ run_last s c (to - (i + 1)) i f (state_of m st ns) t d p (sym j ∙ l)))
@@ -119,7 +122,4 @@ module _ (s : List ℕ) (c₀ : Cursor) (from to f₀ : ℕ) (m₀ : Mode) (st�
               }
 
 abbrev pub invariant-loop-index : goal.invariant-loop-index
-invariant-loop-index l = Inv l.text l.initial.c l.from l.to l.taken l.initial.mode l.initial.frames l.initial.nodes l.c l.index l.latest l.mode l.frames l.nodes
-
-abbrev pub decreases-loop-index : goal.decreases-loop-index
-decreases-loop-index l = l.to - l.index
+invariant-loop-index l = Inv l.text l.initial.c l.from l.to l.initial.latest l.initial.mode l.initial.frames l.initial.nodes l.c l.index l.latest l.mode l.frames l.nodes

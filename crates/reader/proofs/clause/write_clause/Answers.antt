@@ -12,18 +12,20 @@ use Rattle.lexer.specs.declared.refusal.Refusal.TheVariants.{NoRoom}
 use Rattle.reader.specs.Machine.{laid}
 use Rattle.reader.specs.Layout.{out_of, Copies}
 use Rattle.reader.specs.Gather.{came, written, Finished}
-use Rattle.reader.specs.declared.clause.Verdict.{Verdict}
+use Rattle.reader.specs.Clause.{read_to}
+use Rattle.reader.specs.declared.clause.Failure.{Failure}
 use Rattle.reader.proofs.Turns.{length_out}
 use Rattle.reader.proofs.clause.write_clause.Goals as goal
+use Rattle.std.specs.Prelude.{Ok, Err}
 
 module _ (n : ℕ) (ns d : List ℕ) (e : Cursor) where
-  no-room : length d < 2 * n → came (Verdict.AtFirst NoRoom) d ≡ written d e (out_of ns n)
+  no-room : length d < 2 * n → came (Err (Failure.AtFirst NoRoom)) d ≡ written d e (out_of ns n)
   unfolding written
   no-room h =
       let m = length_out ns n in
       cc (lt-leb (2 * length (out_of ns n)) (length d) (omega arith))
 
-  put_out : (d' : List ℕ) → 2 * n ≤ length d → d' ≡ sets d 0 (laid (out_of ns n)) → came (Verdict.Read n e) d' ≡ written d e (out_of ns n)
+  put_out : (d' : List ℕ) → 2 * n ≤ length d → d' ≡ sets d 0 (laid (out_of ns n)) → came (Ok (read_to n e)) d' ≡ written d e (out_of ns n)
   unfolding written
   put_out d' h g =
       let m = length_out ns n in

@@ -5,15 +5,15 @@ use mathlib.Core.Path.{◌≡◌, refl, sym, ◌∙◌, ap}
 use mathlib.Core.Bool.{Bool, true, false}
 use mathlib.Core.List.{List, [], ◌∷◌, ◌++◌, map, map-append}
 use native.Mathlib.Omega.{arith}
+use mir.Syntax.{w16}
+use mir.Val.{Fits}
 use lib.ListN.{length, set, take, length-set, length-append}
 use lib.Seq.{take-suc-set}
-use Rattle.lexer.specs.Cursor.{longest}
-use Rattle.lexer.specs.Token.{next_token}
+use Rattle.lexer.specs.Token.{next_token, token_read, Answer}
 use Rattle.lexer.specs.declared.token.Source.TheVariants.{File}
 use Rattle.lexer.specs.declared.cursor.Cursor.{Cursor}
 use Rattle.lexer.specs.declared.refusal.Fault.{Fault}
 use Rattle.lexer.specs.declared.token.Token as lexer
-use Rattle.lexer.specs.declared.token.Answer.{Answer}
 use Rattle.lexer.proofs.Theorems.{token_promises}
 use Rattle.reader.specs.Token.{Token}
 use Rattle.reader.specs.Clause.{most_tokens, token_in, is_end, whole, stopped, too_many, gather}
@@ -22,6 +22,10 @@ use Rattle.reader.proofs.Sights.{known}
 use Rattle.reader.proofs.Spans.{with_all, with_last, with_whole, with_stopped, with_too_many, gather_end, gather_on, gather_stopped}
 use Rattle.reader.proofs.Turns.{told-refused}
 use Rattle.reader.proofs.line_call.span_tokens.Given as goal
+use Rattle.lexer.specs.Refusal.{refuse}
+use Rattle.lexer.specs.declared.token.TokenRead.{TokenRead}
+use Rattle.lexer.specs.declared.refusal.Refused.{Refused}
+use Rattle.std.specs.declared.result.Result.TheVariants.{Ok, Err}
 
 pub record Inv (s : List ℕ) (c₀ c : Cursor) (i : ℕ) (starts ends : List ℕ) : Type 0 where
   pub left : List Token
@@ -56,14 +60,14 @@ module _ (s : List ℕ) (c₀ c : Cursor) (i j : ℕ) (starts₀ ends₀ starts 
 
 module _ (s : List ℕ) (c₀ c : Cursor) (i : ℕ) (starts ends : List ℕ) (v : Inv s c₀ c i starts ends) where
   -- all places are taken, and no mark
-  pub full : most_tokens ≤ i → Spans s c₀ starts ends
+  pub full : (room : ℕ) → room ≡ most_tokens → room ≤ i → Spans s c₀ starts ends
   unfolding gather
-  full h =
+  full room k h =
       let n : most_tokens - i ≡ 0 = omega arith in
       let g : gather most_tokens s c₀ ≡ too_many = v.same ∙ ap (λ (k : ℕ). with_all v.left (gather k s c)) n ∙ with_too_many v.left in
       record { fronts = λ ts e w. let z : ◌≡◌ {A = ℕ} 0 1 = cc in absurd (omega arith) }
 
-  module _ (h : i < most_tokens) where
+  module _ (room : ℕ) (k : room ≡ most_tokens) (h : i < room) where
     pub from-here : gather most_tokens s c₀ ≡ with_all v.left (gather (suc (1023 - i)) s c)
     from-here =
         let n : most_tokens - i ≡ suc (1023 - i) = omega arith in
@@ -75,22 +79,25 @@ module _ (s : List ℕ) (c₀ c : Cursor) (i : ℕ) (starts ends : List ℕ) (v 
     pub end_there : i < length ends
     end_there = omega (arith, v.spanning.ended)
 
-    pub less : most_tokens - (i + 1) < most_tokens - i
-    less = omega arith
-
     module _ (a : Answer) (e : a ≡ next_token File s c) where
-      pub halted : (w : Fault) (k : Cursor) → a ≡ Answer.Refused w k → Spans s c₀ starts ends
-      halted w k f =
-          let r = told-refused s c v.spanning.valid_cursor w k (sym e ∙ f) in
-          let g : gather most_tokens s c₀ ≡ stopped w = from-here ∙ ap (with_all v.left) (gather_stopped s c (1023 - i) r) ∙ with_stopped v.left in
+      pub halted : (w : Refused) → a ≡ Err w → Spans s c₀ starts ends
+      halted w f =
+          let r = told-refused s c v.spanning.valid_cursor w.fault w.cursor (sym e ∙ f) in
+          let g : gather most_tokens s c₀ ≡ stopped w.fault = from-here ∙ ap (with_all v.left) (gather_stopped s c (1023 - i) r) ∙ with_stopped v.left in
           record { fronts = λ ts e w. let z : ◌≡◌ {A = ℕ} 0 1 = cc in absurd (omega arith) }
 
-      module _ (t : lexer.Token) (d : Cursor) (f : a ≡ Answer.Read t d) where
-        pub narrow_start : t.start ≤ longest
-        narrow_start = let p = token_promises s c File t d (sym e ∙ f) in omega (arith, p.ahead, p.inside, p.from.short)
+      module _ (read : TokenRead) (f : a ≡ Ok read) where
+        abbrev t : lexer.Token
+        t = read.token
 
-        pub narrow_end : d.offset ≤ longest
-        narrow_end = let p = token_promises s c File t d (sym e ∙ f) in omega (arith, p.inside, p.from.short)
+        abbrev d : Cursor
+        d = read.next
+
+        pub start-fits : Fits w16 t.start
+        start-fits = let p = token_promises s c File t d (sym e ∙ f) in record { fits = omega (arith, p.ahead, p.inside, p.from.short) }
+
+        pub end-fits : Fits w16 d.offset
+        end-fits = let p = token_promises s c File t d (sym e ∙ f) in record { fits = omega (arith, p.inside, p.from.short) }
 
         pub it : Token
         it = token_in s t d.offset (known s c t d (sym e ∙ f)).text
@@ -139,6 +146,3 @@ module _ (s : List ℕ) (c₀ c : Cursor) (i : ℕ) (starts ends : List ℕ) (v 
 
 abbrev pub invariant-loop-i : goal.invariant-loop-i
 invariant-loop-i l = Inv l.text l.initial.c l.c l.i l.starts l.ends
-
-abbrev pub decreases-loop-i : goal.decreases-loop-i
-decreases-loop-i l = most_tokens - l.i

@@ -10,15 +10,14 @@ use lib.Dec.{leb}
 use lib.ListN.{length}
 use lib.Seq.{sets}
 use Rattle.lexer.specs.Cursor.{valid}
-use Rattle.lexer.specs.Refusal.{fault}
+use Rattle.lexer.specs.Refusal.{fault, refused_at}
 use Rattle.lexer.specs.declared.cursor.Cursor.{Cursor}
 use Rattle.lexer.specs.declared.refusal.Refusal.TheVariants as refusal
 use Rattle.reader.specs.Clause.{most_tokens, first_offset}
-use Rattle.reader.specs.Listing.{Within, line, Outcome, leaves, line_outcome, Listable, SomeListable, Lists}
-use Rattle.reader.specs.LineCall.{LineOutcome, no_room, read, ReadTree, Spanning, Fronts, Spans}
-use Rattle.reader.specs.declared.line_call.LineAnswer.{LineAnswer}
-use Rattle.reader.specs.declared.listing.Listed.{Listed}
-use Rattle.reader.specs.declared.listing.Listed.TheVariants.{Line, NoRoom}
+use Rattle.reader.specs.Listing.{Within, line, Outcome, leaves, line_outcome, Listable, SomeListable, Lists, Listed}
+use Rattle.reader.specs.LineCall.{LineOutcome, no_room, read, ReadTree, Spanning, Fronts, Spans, line_to}
+use Rattle.lexer.specs.declared.refusal.Refused.{Refused}
+use Rattle.std.specs.Prelude.{Some, None, Ok, Err}
 use Rattle.reader.proofs.Lines.{lists_line}
 use Rattle.reader.proofs.Spans.{Few, gathered_few}
 use Rattle.reader.proofs.TreeRoom.{tree_within, spans_source}
@@ -36,21 +35,21 @@ module _ (bs d : List ℕ) where
     slice : d' ≡ d
 
   abbrev told : Bool → Outcome
-  told b = cond b (leaves (Line (length bs)) (sets d 0 bs)) (leaves NoRoom d)
+  told b = cond b (leaves (Some (length bs)) (sets d 0 bs)) (leaves None d)
 
-  fits_line : (n : ℕ) (d' : List ℕ) → leaves (Line n) d' ≡ line_outcome bs d → Fits n d'
+  fits_line : (n : ℕ) (d' : List ℕ) → leaves (Some n) d' ≡ line_outcome bs d → Fits n d'
   unfolding line_outcome
   fits_line n d' h = go (leb (length bs) (length d)) refl h
     where
-      go : (b : Bool) → leb (length bs) (length d) ≡ b → leaves (Line n) d' ≡ told b → Fits n d'
+      go : (b : Bool) → leb (length bs) (length d) ≡ b → leaves (Some n) d' ≡ told b → Fits n d'
       go true l g = record { under = leb-true (length bs) (length d) l; many = cc; slice = cc }
       go false l g = let z : ◌≡◌ {A = ℕ} 0 1 = cc in absurd (omega arith)
 
-  over-line : (d' : List ℕ) → leaves NoRoom d' ≡ line_outcome bs d → Over d'
+  over-line : (d' : List ℕ) → leaves None d' ≡ line_outcome bs d → Over d'
   unfolding line_outcome
   over-line d' h = go (leb (length bs) (length d)) refl h
     where
-      go : (b : Bool) → leb (length bs) (length d) ≡ b → leaves NoRoom d' ≡ told b → Over d'
+      go : (b : Bool) → leb (length bs) (length d) ≡ b → leaves None d' ≡ told b → Over d'
       go true l g = let z : ◌≡◌ {A = ℕ} 0 1 = cc in absurd (omega arith)
       go false l g = record { above = leb-false (length bs) (length d) l; slice = cc }
 
@@ -89,23 +88,23 @@ module _ (s : List ℕ) (c : Cursor) (ms : List ℕ) (nodes : ℕ) (e : Cursor) 
       its_line : leaves r d' ≡ line_outcome (line s w.tokens w.tree) d
       its_line = lists_line s starts ends w.tokens its.starts_same its.ends_same few.told ms nodes d r d' w.tree listable_at within h
 
-      listed : (n : ℕ) → r ≡ Line n → LineOutcome s c d (LineAnswer.Read n e) d'
+      listed : (n : ℕ) → r ≡ Some n → LineOutcome s c d (Ok (line_to n e)) d'
       listed n k =
           let m = fits_line (line s w.tokens w.tree) d n d' (ap (λ (x : Listed). leaves x d') (sym k) ∙ its_line) in
           rw (m.many, m.slice) (read w.valid_cursor w.gathered w.reads m.under)
 
-      over : (at : ℕ) → r ≡ NoRoom → at ≡ first_offset s c → LineOutcome s c d (LineAnswer.Refused (fault refusal.NoRoom at) c) d'
-      over at k o =
+      over : (at : ℕ) (x : Refused) → r ≡ None → at ≡ first_offset s c → x ≡ refused_at (fault refusal.NoRoom at) c → LineOutcome s c d (Err x) d'
+      over at x k o q =
           let m = over-line (line s w.tokens w.tree) d d' (ap (λ (x : Listed). leaves x d') (sym k) ∙ its_line) in
-          rw (o, m.slice) (no_room w.valid_cursor w.gathered w.reads m.above)
+          rw (q, o, m.slice) (no_room w.valid_cursor w.gathered w.reads m.above)
 
 ruleset ways = (begins, spanning, listable, listed, over, rules)
 
-pub returns-in-Line : goal.returns-in-Line
-returns-in-Line c = search ways
+pub returns-in-Some : goal.returns-in-Some
+returns-in-Some c = search ways
 
-pub returns-in-NoRoom : goal.returns-in-NoRoom
-returns-in-NoRoom c = search ways
+pub returns-in-None : goal.returns-in-None
+returns-in-None c = search ways
 
 pub list_line-requires : goal.list_line-requires
 list_line-requires c = search ways

@@ -1,5 +1,6 @@
 -- `reader::listing::back_length` meets its contract. Assumes nothing.
-use mathlib.Core.Path.{◌≡◌}
+use mathlib.Core.Path.{◌≡◌, refl}
+use mathlib.Core.Logic.{◌⊎◌, inl, inr}
 use borrow.Author.Rules.{rules}
 use lib.ListN.{length}
 use Rattle.reader.specs.Listing.{back}
@@ -7,47 +8,24 @@ use Rattle.reader.specs.declared.listing.Shape.{Shape}
 use Rattle.reader.specs.declared.listing.Shape.TheVariants.{Word, Negative, Call, Square, Tail, Curly}
 use Rattle.reader.proofs.listing.back_length.Goals as goal
 
-module _ (x : Shape) where
-  as-word : x ≡ Word → 0 ≡ length (back x)
-  unfolding back
-  as-word h = cc
+nothing : (x : Shape) → (x ≡ Word) ⊎ (x ≡ Negative) → 0 ≡ length (back x)
+unfolding back
+nothing x (inl e) = cc
+nothing x (inr e) = cc
 
-  as-negative : x ≡ Negative → 0 ≡ length (back x)
-  unfolding back
-  as-negative h = cc
+bracket : (x : Shape) → (x ≡ Word → ⊥) → (x ≡ Negative → ⊥) → 1 ≡ length (back x)
+unfolding back
+bracket Word h k = absurd (h refl)
+bracket Negative h k = absurd (k refl)
+bracket Call h k = refl
+bracket Square h k = refl
+bracket Tail h k = refl
+bracket Curly h k = refl
 
-  as_call : x ≡ Call → 1 ≡ length (back x)
-  unfolding back
-  as_call h = cc
-
-  as-square : x ≡ Square → 1 ≡ length (back x)
-  unfolding back
-  as-square h = cc
-
-  as-tail : x ≡ Tail → 1 ≡ length (back x)
-  unfolding back
-  as-tail h = cc
-
-  as-curly : x ≡ Curly → 1 ≡ length (back x)
-  unfolding back
-  as-curly h = cc
-
-ruleset ways = (as-word, as-negative, as_call, as-square, as-tail, as-curly, rules)
+ruleset ways = (nothing, bracket, rules)
 
 pub returns-in-Word : goal.returns-in-Word
 returns-in-Word c = search ways
 
-pub returns-in-Negative : goal.returns-in-Negative
-returns-in-Negative c = search ways
-
-pub returns-in-Call : goal.returns-in-Call
-returns-in-Call c = search ways
-
-pub returns-in-Square : goal.returns-in-Square
-returns-in-Square c = search ways
-
-pub returns-in-Tail : goal.returns-in-Tail
-returns-in-Tail c = search ways
-
-pub returns-in-Curly : goal.returns-in-Curly
-returns-in-Curly c = search ways
+pub returns-in_default : goal.returns-in_default
+returns-in_default c = search ways

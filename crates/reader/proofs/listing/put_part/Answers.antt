@@ -1,11 +1,9 @@
+-- `reader::listing::put_part` meets its contract. Assumes nothing.
 use borrow.Author.Rules.{rules}
-use Rattle.reader.proofs.listing.put_part.Invariants.{begin, long, done, some_left, read, write, on}
+use Rattle.reader.proofs.Puts.{copied, part_length}
 use Rattle.reader.proofs.listing.put_part.Goals as goal
 
-ruleset ways = (begin, long, done, some_left, read, write, on, rules)
-
-pub loop-i-preserved : goal.loop-i-preserved
-loop-i-preserved c = search ways
+ruleset ways = (copied, part_length, rules)
 
 pub returns : goal.returns
 returns c = search ways

@@ -1,82 +1,57 @@
 -- `reader::listing::shape_of` meets its contract. Assumes nothing.
-use Prim.Native.Nat.{ℕ}
-use mathlib.Core.Path.{◌≡◌}
-use borrow.Author.Rules.{rules}
-use borrow.Author.Tests.{ne_eqb}
-use Rattle.reader.specs.Tree.{kind_number}
-use Rattle.reader.specs.Listing.{kind_of, shape_of}
-use Rattle.reader.specs.declared.listing.Shape.TheVariants.{Word, Negative, Call, Square, Tail, Curly}
+use Rattle.std.proofs.Common.{rules, ◌≡◌, ◌⊎◌, inl, inr}
+use Rattle.reader.specs.Kinds.{kind_as}
+use Rattle.reader.specs.Listing.{shape_of}
+use Rattle.reader.specs.declared.kinds.NodeKind.{NodeKind}
+use Rattle.reader.specs.declared.kinds.NodeKind.TheVariants.{Plain, Negative, Call, Prefix, Infix, List, ListTail, Curly, EmptyList, EmptyCurly}
+use Rattle.reader.specs.declared.listing.Shape.TheVariants as Shape
 use Rattle.reader.proofs.listing.shape_of.Goals as goal
 
-module _ (n : ℕ) where
-  is_plain : n ≡ 0 → Word ≡ shape_of (kind_of n)
-  unfolding shape_of kind_of kind_number
-  is_plain h = cc
+module _ (k : NodeKind) where
+  plain : k ≡ Plain → Shape.Word ≡ shape_of (kind_as k)
+  unfolding shape_of kind_as
+  plain e = rw e
 
-  is_negative : n ≡ 1 → Negative ≡ shape_of (kind_of n)
-  unfolding shape_of kind_of kind_number
-  is_negative h = cc
+  minus : k ≡ Negative → Shape.Negative ≡ shape_of (kind_as k)
+  unfolding shape_of kind_as
+  minus e = rw e
 
-  is_call : n ≡ 2 → Call ≡ shape_of (kind_of n)
-  unfolding shape_of kind_of kind_number
-  is_call h = cc
+  called : k ≡ Call ⊎ k ≡ Prefix ⊎ k ≡ Infix → Shape.Call ≡ shape_of (kind_as k)
+  unfolding shape_of kind_as
+  called (inl e) = rw e
+  called (inr (inl e)) = rw e
+  called (inr (inr e)) = rw e
 
-  is_prefix : n ≡ 3 → Call ≡ shape_of (kind_of n)
-  unfolding shape_of kind_of kind_number
-  is_prefix h = cc
+  listed : k ≡ List ⊎ k ≡ EmptyList → Shape.Square ≡ shape_of (kind_as k)
+  unfolding shape_of kind_as
+  listed (inl e) = rw e
+  listed (inr e) = rw e
 
-  is_infx : n ≡ 4 → Call ≡ shape_of (kind_of n)
-  unfolding shape_of kind_of kind_number
-  is_infx h = cc
+  tailed : k ≡ ListTail → Shape.Tail ≡ shape_of (kind_as k)
+  unfolding shape_of kind_as
+  tailed e = rw e
 
-  is_list : n ≡ 5 → Square ≡ shape_of (kind_of n)
-  unfolding shape_of kind_of kind_number
-  is_list h = cc
+  curled : k ≡ Curly ⊎ k ≡ EmptyCurly → Shape.Curly ≡ shape_of (kind_as k)
+  unfolding shape_of kind_as
+  curled (inl e) = rw e
+  curled (inr e) = rw e
 
-  is_list_tail : n ≡ 6 → Tail ≡ shape_of (kind_of n)
-  unfolding shape_of kind_of kind_number
-  is_list_tail h = cc
+ruleset ways = (plain, minus, called, listed, tailed, curled, rules)
 
-  is_curly : n ≡ 7 → Curly ≡ shape_of (kind_of n)
-  unfolding shape_of kind_of kind_number
-  is_curly h = cc
+pub returns-in-Plain : goal.returns-in-Plain
+returns-in-Plain c = search ways
 
-  is_empty_list : n ≡ 8 → Square ≡ shape_of (kind_of n)
-  unfolding shape_of kind_of kind_number
-  is_empty_list h = cc
+pub returns-in-Negative : goal.returns-in-Negative
+returns-in-Negative c = search ways
 
-  is_other : (n ≡ 0 → ⊥) → (n ≡ 1 → ⊥) → (n ≡ 2 → ⊥) → (n ≡ 3 → ⊥) → (n ≡ 4 → ⊥) → (n ≡ 5 → ⊥) → (n ≡ 6 → ⊥) → (n ≡ 7 → ⊥) → (n ≡ 8 → ⊥) → Curly ≡ shape_of (kind_of n)
-  unfolding shape_of kind_of kind_number
-  is_other h0 h1 h2 h3 h4 h5 h6 h7 h8 = cc (ne_eqb n 0 h0, ne_eqb n 1 h1, ne_eqb n 2 h2, ne_eqb n 3 h3, ne_eqb n 4 h4, ne_eqb n 5 h5, ne_eqb n 6 h6, ne_eqb n 7 h7, ne_eqb n 8 h8)
+pub returns-in-Call : goal.returns-in-Call
+returns-in-Call c = search ways
 
-ruleset ways = (is_plain, is_negative, is_call, is_prefix, is_infx, is_list, is_list_tail, is_curly, is_empty_list, is_other, rules)
+pub returns-in-List : goal.returns-in-List
+returns-in-List c = search ways
 
-pub returns-in-0 : goal.returns-in-0
-returns-in-0 c = search ways
+pub returns-in-ListTail : goal.returns-in-ListTail
+returns-in-ListTail c = search ways
 
-pub returns-in-1 : goal.returns-in-1
-returns-in-1 c = search ways
-
-pub returns-in-2 : goal.returns-in-2
-returns-in-2 c = search ways
-
-pub returns-in-3 : goal.returns-in-3
-returns-in-3 c = search ways
-
-pub returns-in-4 : goal.returns-in-4
-returns-in-4 c = search ways
-
-pub returns-in-5 : goal.returns-in-5
-returns-in-5 c = search ways
-
-pub returns-in-6 : goal.returns-in-6
-returns-in-6 c = search ways
-
-pub returns-in-7 : goal.returns-in-7
-returns-in-7 c = search ways
-
-pub returns-in-8 : goal.returns-in-8
-returns-in-8 c = search ways
-
-pub returns-in_default : goal.returns-in_default
-returns-in_default c = search ways
+pub returns-in-Curly : goal.returns-in-Curly
+returns-in-Curly c = search ways

@@ -8,6 +8,7 @@ use lib.ListN.{length}
 use Rattle.reader.specs.Tree.{packed}
 use Rattle.reader.specs.Machine.{red, separates, State, push_as, closing, comma_step}
 use Rattle.reader.specs.Layout.{frames_of, out_of, red_of, stop_as, Room, Held}
+use Rattle.reader.proofs.Stacks.{part_length, part_separates}
 use Rattle.reader.proofs.Rooms.{held_reduced, held_room_none, held_none, depth_in}
 use Rattle.reader.specs.declared.machine.Spot.{Spot}
 use Rattle.reader.specs.declared.machine.Stop.TheVariants.{Comma}
@@ -38,7 +39,7 @@ module _ (st ns ns' : List ℕ) (d n d' n' b : ℕ) (h : Held st ns d n 1) (l : 
   depth_reduced : d' ≤ length st
   depth_reduced = depth_in st ns' d' n' 1 reduced.room
 
-ruleset ways = (parts, joins, to-close, to_push, depth_reduced, held_room_none, rules)
+ruleset ways = (parts, joins, to-close, to_push, depth_reduced, part_length, part_separates, held_room_none, rules)
 
 pub returns-then-separating : goal.returns-then-separating
 returns-then-separating c = search ways
@@ -46,8 +47,11 @@ returns-then-separating c = search ways
 pub returns : goal.returns
 returns c = search ways
 
-pub separating-requires : goal.separating-requires
-separating-requires c = search ways
+pub slice_bounds-separating-end : goal.slice_bounds-separating-end
+slice_bounds-separating-end c = search ways
+
+pub slice_bounds-separating-end-2 : goal.slice_bounds-separating-end-2
+slice_bounds-separating-end-2 c = search ways
 
 pub close_with-requires : goal.close_with-requires
 close_with-requires c = search ways

@@ -2,32 +2,26 @@
 use Prim.Native.Nat.{ℕ}
 use mathlib.Core.Path.{◌≡◌}
 use mathlib.Core.List.{◌∷◌}
-use native.Mathlib.Omega.{arith}
 use borrow.Author.Rules.{rules}
 use Rattle.reader.specs.Tree.{packed}
 use Rattle.reader.specs.Machine.{Out, Frames, opened, bound, inside, State, want_step}
-use Rattle.reader.specs.Layout.{curly_tag, list_tag, bracket_as, frame_as, shape_of, Small}
+use Rattle.reader.specs.Layout.{frame_as, shape_of}
 use Rattle.reader.specs.declared.machine.Shape.{Shape}
 use Rattle.reader.specs.declared.machine.Shape.TheVariants.{Squares, Braces}
 use Rattle.reader.specs.Machine as M
+use Rattle.reader.specs.declared.machine.Tag.TheVariants as Tag
 use Rattle.reader.proofs.machine.first_step.Goals as goal
 
-square_small : Small list_tag 0
-square_small = record { tag = omega arith; bound = omega arith }
-
-brace_small : Small curly_tag 0
-brace_small = record { tag = omega arith; bound = omega arith }
-
 module _ (h : Shape) (i j : ℕ) (k : M.Sight) (fs : Frames) (out : Out) (z : State) where
-  in-squares : h ≡ Squares → z ≡ want_step packed (frame_as list_tag i 0 0 ∷ fs) out j k → z ≡ want_step packed (opened (inside (shape_of h) i) ∷ fs) out j k
-  unfolding frame_as bracket_as inside shape_of
+  in-squares : h ≡ Squares → z ≡ want_step packed (frame_as Tag.List i 0 0 ∷ fs) out j k → z ≡ want_step packed (opened (inside (shape_of h) i) ∷ fs) out j k
+  unfolding frame_as inside shape_of
   in-squares e f = cc
 
-  in-braces : h ≡ Braces → z ≡ want_step packed (frame_as curly_tag i 0 0 ∷ fs) out j k → z ≡ want_step packed (opened (inside (shape_of h) i) ∷ fs) out j k
-  unfolding frame_as bracket_as inside shape_of
+  in-braces : h ≡ Braces → z ≡ want_step packed (frame_as Tag.Curly i 0 0 ∷ fs) out j k → z ≡ want_step packed (opened (inside (shape_of h) i) ∷ fs) out j k
+  unfolding frame_as inside shape_of
   in-braces e f = cc
 
-ruleset ways = (square_small, brace_small, in-squares, in-braces, rules)
+ruleset ways = (in-squares, in-braces, rules)
 
 pub returns-in-Squares : goal.returns-in-Squares
 returns-in-Squares c = search ways

@@ -4,6 +4,7 @@ use mathlib.Core.Path.{◌≡◌}
 use mathlib.Core.Bool.{Bool, true, false}
 use mathlib.Core.List.{◌∷◌}
 use borrow.Author.Rules.{rules}
+use Rattle.std.specs.Prelude.{Option}
 use Rattle.reader.specs.Ops.{roled}
 use Rattle.reader.specs.Tree.{plain, packed}
 use Rattle.reader.specs.Machine.{nd, Out, Frames, stop_of, glues, State, glued_step, have_step, op_step, pend_step}
@@ -14,7 +15,7 @@ use Rattle.reader.specs.declared.roles.Infix.{Infix}
 use Rattle.reader.specs.Machine as M
 use Rattle.reader.proofs.machine.pend_step.Goals as goal
 
-module _ (i e j : ℕ) (m : Bool) (x : Prefix) (y : Infix) (k : M.Sight) (fs : Frames) (out : Out) (b : Bool) (z : State) (h : b ≡ glues m e k) where
+module _ (i e j : ℕ) (m : Bool) (x : Option Prefix) (y : Option Infix) (k : M.Sight) (fs : Frames) (out : Out) (b : Bool) (z : State) (h : b ≡ glues m e k) where
   glued : b ≡ true → z ≡ glued_step packed i fs out k → z ≡ pend_step packed i e m (pre_of x) (inf_of y) fs out j k
   unfolding pend_step
   glued f g = cc

@@ -5,13 +5,14 @@ use mathlib.Core.List.{List, ◌∷◌}
 use native.Mathlib.Omega.{arith}
 use borrow.Author.Rules.{rules}
 use lib.ListN.{set}
-use Rattle.reader.specs.Machine.{Node, red}
+use Rattle.reader.specs.Machine.{nd, red}
 use Rattle.reader.specs.Layout.{node_of, frames_of, out_of, Room}
 use Rattle.reader.proofs.Stacks.{push_node}
 use Rattle.reader.proofs.machine.put_node.Goals as goal
 
-put : (st ns : List ℕ) (d n r : ℕ) (x : Node) → Room st ns d n 1 → node_of r ≡ x → red (frames_of st d) (out_of (set ns n r) (n + 1)) ≡ red (frames_of st d) (x ∷ out_of ns n)
-put st ns d n r x h e = cc (push_node ns n r (omega (arith, h.nodes)))
+put : (st ns : List ℕ) (d n r i w v : ℕ) → Room st ns d n 1 → w ≡ v → node_of r ≡ nd i w →
+    red (frames_of st d) (out_of (set ns n r) (n + 1)) ≡ red (frames_of st d) (nd i v ∷ out_of ns n)
+put st ns d n r i w v h e f = cc (push_node ns n r (omega (arith, h.nodes)))
 
 ruleset ways = (put, rules)
 

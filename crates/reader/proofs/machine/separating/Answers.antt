@@ -1,57 +1,48 @@
 -- `reader::machine::separating` meets its contract. Assumes nothing.
-use Prim.Native.Nat.{ℕ, ◌-◌, ◌<◌, ◌≤◌}
-use mathlib.Core.Path.{◌≡◌}
-use mathlib.Core.Bool.{true, false}
-use mathlib.Core.List.{List}
-use native.Mathlib.Omega.{arith}
-use borrow.Author.Rules.{rules}
-use borrow.Author.Tests.{lt-ltb, le-ltb}
-use lib.ListN.{get_or}
-use Rattle.reader.specs.Machine.{separates}
-use Rattle.reader.specs.Layout.{tag_of, index_of, prio_of, infix_tag, curly_tag, frame_as, frame_of, frames_of}
-use Rattle.reader.proofs.Stacks.{pop_frame, no_frame}
-use Rattle.reader.proofs.Tags.{not_separating, separating}
-use native.Mathlib.Decide.{dec_lt}
+use Rattle.std.proofs.Common.{rules, ◌≡◌, refl, ℕ, ◌-◌, true, false, List, ◌∷◌, length, Some, None, slice_get, ◌⊎◌, inl, inr}
+use Rattle.reader.specs.Machine.{Frames, separates}
+use Rattle.reader.specs.Layout.{tag_of, index_of, prio_of, bound_of, frame_as, frame_of, frames_of}
+use Rattle.reader.proofs.Stacks.{none_on_top, one_on_top}
+use Rattle.reader.specs.declared.machine.Tag.{Tag}
+use Rattle.reader.specs.declared.machine.Tag.TheVariants.{Prefix, Infix, Top, Round, Curly, Call, List as ListTag, Tail}
 use Rattle.reader.proofs.machine.separating.Goals as goal
 
--- t is the tag of the word on top
-module _ (st : List ℕ) (d : ℕ) where
-  empty : d ≡ 0 → false ≡ separates (frames_of st d)
+module _ (i q b : ℕ) (fs : Frames) where
+  joined : (t : Tag) → (t ≡ Call → ⊥) → (t ≡ ListTag → ⊥) → (t ≡ Tail → ⊥) → separates (frame_as t i q b ∷ fs) ≡ false
+  unfolding separates frame_as
+  joined Prefix f g h = refl
+  joined Infix f g h = refl
+  joined Top f g h = refl
+  joined Round f g h = refl
+  joined Curly f g h = refl
+  joined Call f g h = absurd (f refl)
+  joined ListTag f g h = absurd (g refl)
+  joined Tail f g h = absurd (h refl)
+
+module _ (st : List ℕ) where
+  empty : None ≡ slice_get st (length st - 1) → false ≡ separates (frames_of st (length st))
   unfolding separates
-  empty e = cc (no_frame st d (omega arith))
+  empty h = cc (none_on_top st h)
 
-  module _ (t : ℕ) (h : d ≡ 0 → ⊥) (e : t ≡ tag_of (get_or st (d - 1) 0)) where
-    one : 0 < d
-    one = omega (arith, h)
+  -- w is the word on top, t its tag
+  module _ (w : ℕ) (t : Tag) (h : Some w ≡ slice_get st (length st - 1)) (e : t ≡ tag_of w) where
+    joins : (t ≡ Call → ⊥) → (t ≡ ListTag → ⊥) → (t ≡ Tail → ⊥) → false ≡ separates (frames_of st (length st))
+    unfolding frame_of
+    joins f g k = cc (one_on_top st w h, joined (index_of w) (prio_of w) (bound_of w) (frames_of st (length st - 1)) t f g k)
 
-    operator : t ≤ infix_tag → false ≡ separates (frames_of st d)
+    parts : t ≡ Call ⊎ t ≡ ListTag ⊎ t ≡ Tail → true ≡ separates (frames_of st (length st))
     unfolding separates frame_of frame_as
-    operator f = cc (pop_frame st d one, le-ltb infix_tag t f)
-
-    bracket : infix_tag < t → t ≤ curly_tag → false ≡ separates (frames_of st d)
-    unfolding frame_of frame_as
-    bracket f g =
-        cc (pop_frame st d one, lt-ltb infix_tag t f, not_separating t (index_of (get_or st (d - 1) 0)) (prio_of (get_or st (d - 1) 0)) f (frames_of st (d - 1)) g)
-
-    joins : t ≤ curly_tag → false ≡ separates (frames_of st d)
-    joins g = elim (dec_lt infix_tag t) [
-      | yes f ↦ bracket f g
-      | no f ↦ operator (omega arith)
-    ]
-
-    parts : curly_tag < t → true ≡ separates (frames_of st d)
-    unfolding frame_of frame_as
-    parts g =
-        let f : infix_tag < t = omega arith in
-        cc (pop_frame st d one, lt-ltb infix_tag t f, separating t (index_of (get_or st (d - 1) 0)) (prio_of (get_or st (d - 1) 0)) f (frames_of st (d - 1)) g)
+    parts (inl g) = cc (one_on_top st w h)
+    parts (inr (inl g)) = cc (one_on_top st w h)
+    parts (inr (inr g)) = cc (one_on_top st w h)
 
 ruleset ways = (empty, joins, parts, rules)
 
-pub returns-then-depth-eq0 : goal.returns-then-depth-eq0
-returns-then-depth-eq0 c = search ways
+pub returns-in_default : goal.returns-in_default
+returns-in_default c = search ways
 
-pub returns-then-tag-le-CURLY : goal.returns-then-tag-le-CURLY
-returns-then-tag-le-CURLY c = search ways
+pub returns-in-Call : goal.returns-in-Call
+returns-in-Call c = search ways
 
-pub returns : goal.returns
-returns c = search ways
+pub returns-in_default-matches : goal.returns-in_default-matches
+returns-in_default-matches c = search ways

@@ -3,7 +3,7 @@ use Prim.Native.Nat.{ℕ, ◌+◌}
 use mathlib.Core.Path.{◌≡◌}
 use mathlib.Core.List.{List}
 use native.Mathlib.Omega.{arith}
-use borrow.Author.Rules.{rules}
+use Rattle.std.proofs.Common.{rules, ◌⊎◌, inl, inr}
 use Rattle.reader.specs.Tree.{packed}
 use Rattle.reader.specs.Machine.{State, want_step, have_step, pend_step, begun_step}
 use Rattle.reader.specs.Layout.{frames_of, out_of, pre_of, inf_of, shape_of, state_of, Room, Held, takes, Ready}
@@ -39,7 +39,7 @@ module _ (st ns : List ℕ) (m : Mode) (j : ℕ) (k : M.Sight) where
     at_want e f = rw e f
 
     at_pend : (p : Pending) → m ≡ Pend s p →
-        z ≡ pend_step packed p.index p.end p.minus (pre_of p.pre) (inf_of p.inf) (frames_of st s.depth) (out_of ns s.count) j k →
+        z ≡ pend_step packed p.index p.end p.roles.minus (pre_of p.roles.prefix) (inf_of p.roles.«infix») (frames_of st s.depth) (out_of ns s.count) j k →
         z ≡ M.step packed (state_of m st ns) j k
     unfolding state_of M.step
     at_pend p e f = rw e f
@@ -53,15 +53,12 @@ module _ (st ns : List ℕ) (m : Mode) (j : ℕ) (k : M.Sight) where
     unfolding state_of M.step
     at_have e f = rw e f
 
-  at_dead : m ≡ Dead → state_of Dead st ns ≡ M.step packed (state_of m st ns) j k
+  over : m ≡ Dead ⊎ ((n : ℕ) × m ≡ Done n) → state_of Dead st ns ≡ M.step packed (state_of m st ns) j k
   unfolding state_of M.step
-  at_dead e = rw e
+  over (inl e) = rw e
+  over (inr (n, e)) = rw e
 
-  at_done : (n : ℕ) → m ≡ Done n → state_of Dead st ns ≡ M.step packed (state_of m st ns) j k
-  unfolding state_of M.step
-  at_done n e = rw e
-
-ruleset ways = (room_want, held_pend, room_begun, held_have, at_want, at_pend, at-begun, at_have, at_dead, at_done, rules)
+ruleset ways = (room_want, held_pend, room_begun, held_have, at_want, at_pend, at-begun, at_have, over, rules)
 
 pub returns-in-Want : goal.returns-in-Want
 returns-in-Want c = search ways
@@ -77,6 +74,3 @@ returns-in-Have c = search ways
 
 pub returns-in-Dead : goal.returns-in-Dead
 returns-in-Dead c = search ways
-
-pub returns-in-Done : goal.returns-in-Done
-returns-in-Done c = search ways

@@ -1,50 +1,46 @@
 -- `reader::machine::top_bound` meets its contract. Assumes nothing.
-use Prim.Native.Nat.{ℕ, ◌-◌, ◌<◌, ◌≤◌}
-use mathlib.Core.Path.{◌≡◌}
-use mathlib.Core.List.{List}
-use native.Mathlib.Omega.{arith}
-use borrow.Author.Rules.{rules}
-use borrow.Author.Tests.{lt-ltb, le-ltb}
-use lib.ListN.{get_or}
-use Rattle.reader.specs.Machine.{bound}
-use Rattle.reader.specs.Layout.{tag_of, index_of, prio_of, bound_of, infix_tag, curly_tag, frame_as, frame_of, frames_of}
-use Rattle.reader.proofs.Stacks.{pop_frame, no_frame}
-use Rattle.reader.proofs.Tags.{place-1201, place-1000}
+use Rattle.std.proofs.Common.{rules, ◌≡◌, ℕ, ◌-◌, List, length, Some, None, slice_get, ◌⊎◌, inl, inr}
+use Rattle.reader.specs.Machine.{place_of, bound}
+use Rattle.reader.specs.Layout.{tag_of, bound_of, frame_as, frame_of, frames_of}
+use Rattle.reader.proofs.Stacks.{none_on_top, one_on_top}
+use Rattle.reader.specs.declared.machine.Tag.{Tag}
+use Rattle.reader.specs.declared.machine.Tag.TheVariants.{Prefix, Infix, Top, Round, Curly, Call, List as ListTag, Tail}
 use Rattle.reader.proofs.machine.top_bound.Goals as goal
 
--- t is the tag of the word on top
-module _ (st : List ℕ) (d : ℕ) where
-  ended : d ≡ 0 → 0 ≡ bound (frames_of st d)
+module _ (st : List ℕ) where
+  ended : None ≡ slice_get st (length st - 1) → 0 ≡ bound (frames_of st (length st))
   unfolding bound
-  ended h = cc (no_frame st d (omega arith))
+  ended h = cc (none_on_top st h)
 
-  module _ (t : ℕ) (h : d ≡ 0 → ⊥) (e : t ≡ tag_of (get_or st (d - 1) 0)) where
-    one : 0 < d
-    one = omega (arith, h)
-
-    operator : (r : ℕ) → t ≤ infix_tag → r ≡ bound_of (get_or st (d - 1) 0) → r ≡ bound (frames_of st d)
+  -- w is the word on top, t its tag
+  module _ (w : ℕ) (t : Tag) (h : Some w ≡ slice_get st (length st - 1)) (e : t ≡ tag_of w) where
+    operator : (r : ℕ) → t ≡ Prefix ⊎ t ≡ Infix → r ≡ bound_of w → r ≡ bound (frames_of st (length st))
     unfolding bound frame_of frame_as
-    operator r g f = cc (pop_frame st d one, le-ltb infix_tag t g)
+    operator r (inl g) f = cc (one_on_top st w h)
+    operator r (inr g) f = cc (one_on_top st w h)
 
-    module _ (g : infix_tag < t) where
-      high : t ≤ curly_tag → 1201 ≡ bound (frames_of st d)
-      unfolding bound frame_of frame_as
-      high f = cc (pop_frame st d one, lt-ltb infix_tag t g, place-1201 t (index_of (get_or st (d - 1) 0)) (prio_of (get_or st (d - 1) 0)) g f)
+    high : t ≡ Top ⊎ t ≡ Round ⊎ t ≡ Curly → 1201 ≡ bound (frames_of st (length st))
+    unfolding bound place_of frame_of frame_as
+    high (inl g) = cc (one_on_top st w h)
+    high (inr (inl g)) = cc (one_on_top st w h)
+    high (inr (inr g)) = cc (one_on_top st w h)
 
-      low : curly_tag < t → 1000 ≡ bound (frames_of st d)
-      unfolding bound frame_of frame_as
-      low f = cc (pop_frame st d one, lt-ltb infix_tag t g, place-1000 t (index_of (get_or st (d - 1) 0)) (prio_of (get_or st (d - 1) 0)) g f)
+    low : t ≡ Call ⊎ t ≡ ListTag ⊎ t ≡ Tail → 1000 ≡ bound (frames_of st (length st))
+    unfolding bound place_of frame_of frame_as
+    low (inl g) = cc (one_on_top st w h)
+    low (inr (inl g)) = cc (one_on_top st w h)
+    low (inr (inr g)) = cc (one_on_top st w h)
 
 ruleset ways = (ended, operator, high, low, rules)
 
-pub returns-then-depth-eq0 : goal.returns-then-depth-eq0
-returns-then-depth-eq0 c = search ways
+pub returns-in_default : goal.returns-in_default
+returns-in_default c = search ways
 
-pub returns-then-t-le-INFIX : goal.returns-then-t-le-INFIX
-returns-then-t-le-INFIX c = search ways
+pub returns-in-Prefix : goal.returns-in-Prefix
+returns-in-Prefix c = search ways
 
-pub returns-then-t-le-CURLY : goal.returns-then-t-le-CURLY
-returns-then-t-le-CURLY c = search ways
+pub returns-in-Top : goal.returns-in-Top
+returns-in-Top c = search ways
 
-pub returns : goal.returns
-returns c = search ways
+pub returns-in-Call : goal.returns-in-Call
+returns-in-Call c = search ways

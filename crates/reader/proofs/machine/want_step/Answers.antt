@@ -4,26 +4,27 @@ use mathlib.Core.Path.{◌≡◌}
 use mathlib.Core.Bool.{Bool, true, false}
 use mathlib.Core.List.{List, ◌∷◌}
 use borrow.Author.Rules.{rules}
-use Rattle.reader.specs.Tree.{kind_number, packed}
+use Rattle.reader.specs.Tree.{packed}
 use Rattle.reader.specs.Machine.{nd, Out, Frames, State, have, want, want_step}
-use Rattle.reader.specs.Layout.{round_tag, bracket_as, frame_as, frames_of, out_of, sight_of, shape_of, state_of}
-use Rattle.reader.proofs.Stacks.{plain_node}
+use Rattle.reader.specs.Layout.{frame_as, frames_of, out_of, sight_of, shape_of, state_of}
 use Rattle.reader.proofs.Rooms.{takes-number, takes_var, takes-round}
 use Rattle.reader.specs.declared.machine.Spot.{Spot}
 use Rattle.reader.specs.declared.machine.Stop.{Stop}
-use Rattle.reader.specs.declared.roles.Prefix.{Prefix}
-use Rattle.reader.specs.declared.roles.Infix.{Infix}
+use Rattle.reader.specs.declared.roles.Roles.{Roles}
 use Rattle.reader.specs.declared.machine.Sight.{Sight}
 use Rattle.reader.specs.declared.machine.Sight.TheVariants.{Name, Number, VarOrString, Round, Square, Brace, Stop as Stops}
 use Rattle.reader.specs.declared.machine.Shape.TheVariants.{Squares, Braces}
 use Rattle.reader.specs.declared.machine.Mode.TheVariants.{Pend, Begun, Dead}
+use Rattle.reader.specs.Kinds.{kind_as}
+use Rattle.reader.specs.declared.kinds.NodeKind.TheVariants as NodeKind
+use Rattle.reader.specs.declared.machine.Tag.TheVariants as Tag
 use Rattle.reader.proofs.machine.want_step.Goals as goal
 
 module _ (st ns : List ℕ) (s : Spot) (i : ℕ) (k : Sight) where
-  named : (e : ℕ) (m : Bool) (p : Prefix) (q : Infix) → k ≡ Name e m p q →
-      state_of (Pend s (record { index = i; end = e; minus = m; pre = p; inf = q })) st ns ≡ want_step packed (frames_of st s.depth) (out_of ns s.count) i (sight_of k)
+  named : (e : ℕ) (r : Roles) → k ≡ Name e r →
+      state_of (Pend s (record { index = i; end = e; roles = r })) st ns ≡ want_step packed (frames_of st s.depth) (out_of ns s.count) i (sight_of k)
   unfolding state_of want_step sight_of
-  named e m p q g = rw g
+  named e r g = rw g
 
   square : k ≡ Square → state_of (Begun s Squares i) st ns ≡ want_step packed (frames_of st s.depth) (out_of ns s.count) i (sight_of k)
   unfolding state_of shape_of want_step sight_of
@@ -43,16 +44,16 @@ module _ (i : ℕ) (k : Sight) (fs : Frames) (out : Out) where
   lowest st ns n low g h = cc
 
   module _ (z : State) where
-    number : (n : ℕ) (low : Bool) → k ≡ Number n low → low ≡ false → z ≡ have fs (nd i plain_node ∷ out) → z ≡ want_step packed fs out i (sight_of k)
-    unfolding want_step sight_of packed kind_number
+    number : (n : ℕ) (low : Bool) → k ≡ Number n low → low ≡ false → z ≡ have fs (nd i (packed (kind_as NodeKind.Plain) 0) ∷ out) → z ≡ want_step packed fs out i (sight_of k)
+    unfolding want_step sight_of kind_as
     number n low g h f = cc
 
-    var : k ≡ VarOrString → z ≡ have fs (nd i plain_node ∷ out) → z ≡ want_step packed fs out i (sight_of k)
-    unfolding want_step sight_of packed kind_number
+    var : k ≡ VarOrString → z ≡ have fs (nd i (packed (kind_as NodeKind.Plain) 0) ∷ out) → z ≡ want_step packed fs out i (sight_of k)
+    unfolding want_step sight_of kind_as
     var g f = cc
 
-    round : (ct : Bool) → k ≡ Round ct → z ≡ want (frame_as round_tag 0 0 0 ∷ fs) out → z ≡ want_step packed fs out i (sight_of k)
-    unfolding want_step sight_of frame_as bracket_as
+    round : (ct : Bool) → k ≡ Round ct → z ≡ want (frame_as Tag.Round 0 0 0 ∷ fs) out → z ≡ want_step packed fs out i (sight_of k)
+    unfolding want_step sight_of frame_as
     round ct g f = cc
 
 ruleset ways = (named, square, brace, stopped, lowest, number, var, round, takes-number, takes_var, takes-round, rules)
@@ -60,11 +61,11 @@ ruleset ways = (named, square, brace, stopped, lowest, number, var, round, takes
 pub returns-in-Name : goal.returns-in-Name
 returns-in-Name c = search ways
 
-pub returns-then-lowest : goal.returns-then-lowest
-returns-then-lowest c = search ways
+pub returns-in-Number-default-true : goal.returns-in-Number-default-true
+returns-in-Number-default-true c = search ways
 
-pub returns-else-lowest : goal.returns-else-lowest
-returns-else-lowest c = search ways
+pub returns-in-Number : goal.returns-in-Number
+returns-in-Number c = search ways
 
 pub returns-in-VarOrString : goal.returns-in-VarOrString
 returns-in-VarOrString c = search ways
@@ -81,11 +82,11 @@ returns-in-Brace c = search ways
 pub returns-in-Stop : goal.returns-in-Stop
 returns-in-Stop c = search ways
 
-pub have_node-requires : goal.have_node-requires
-have_node-requires c = search ways
+pub have_node-requires-clause-room : goal.have_node-requires-clause-room
+have_node-requires-clause-room c = search ways
 
-pub have_node-requires-in-VarOrString : goal.have_node-requires-in-VarOrString
-have_node-requires-in-VarOrString c = search ways
+pub have_node-requires-in-VarOrString-clause-room : goal.have_node-requires-in-VarOrString-clause-room
+have_node-requires-in-VarOrString-clause-room c = search ways
 
-pub want_in-requires-clause-room : goal.want_in-requires-clause-room
-want_in-requires-clause-room c = search ways
+pub want_in-requires : goal.want_in-requires
+want_in-requires c = search ways

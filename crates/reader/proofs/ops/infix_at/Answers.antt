@@ -1,90 +1,81 @@
 -- `reader::ops::infix_at` meets its contract. Assumes nothing.
-use Prim.Native.Nat.{ℕ}
-use mathlib.Core.Path.{◌≡◌, ◌∙◌, refl, sym}
-use mathlib.Core.Bool.{Bool, true, false, not, cond}
-use mathlib.Core.List.{List}
-use lib.Dec.{eqb}
-use borrow.Author.Rules.{rules}
-use borrow.Author.Tests.{ne_eqb, not-true, not-false}
+use Rattle.std.proofs.Common.{rules, ◌≡◌, refl, sym, ℕ, Bool, true, false, not, List, Some, None}
 use Rattle.reader.specs.Token.{same_text}
-use Rattle.reader.specs.Ops.{fx, fy, prefix_op, infix_op}
 use Rattle.reader.specs.Roles.{infix_role}
-use Rattle.reader.specs.Names.{spelt, trimmed, kind_xfx, kind_xfy, kind_fy, kind_fx, infix_as, entry_as, entry_of, entry_at, infix_in}
+use Rattle.reader.specs.Names.{spelt, trimmed, entry_as, entry_of, entry_at, infix_in}
 use Rattle.reader.specs.declared.operators.Operator.{Operator}
+use Rattle.reader.specs.declared.operators.OperatorKind.{OperatorKind}
+use Rattle.reader.specs.declared.operators.OperatorKind.TheVariants.{Xfx, Xfy, Yfx, Fy, Fx}
 use Rattle.reader.specs.declared.ops.ShortName.{ShortName}
-use Rattle.reader.specs.declared.roles.Infix.TheVariants.{Absent as noInfix, Xfx as isXfx, Xfy as isXfy, Yfx as isYfx}
+use Rattle.reader.specs.declared.roles.Infix.TheVariants as Infix
+use Rattle.reader.proofs.Finding.{bytes_eq, same_name, other_named}
 use Rattle.reader.proofs.ops.infix_at.Goals as goal
 
 -- the role that an entry of the kind k, the name y and the priority p gives to a name x
-module _ (k p : ℕ) (x y : List ℕ) where
-  is_fx : k ≡ kind_fx → noInfix ≡ infix_in (entry_as k y p) x
+module _ (p : ℕ) (x y : List ℕ) where
+  is_xfx : (k : OperatorKind) → k ≡ Xfx → true ≡ same_text x y → Some (Infix.Xfx p) ≡ infix_in (entry_as k y p) x
+  unfolding infix_in entry_as infix_role
+  is_xfx k h e = cc
+
+  is_xfy : (k : OperatorKind) → k ≡ Xfy → true ≡ same_text x y → Some (Infix.Xfy p) ≡ infix_in (entry_as k y p) x
+  unfolding infix_in entry_as infix_role
+  is_xfy k h e = cc
+
+  is_yfx : (k : OperatorKind) → k ≡ Yfx → true ≡ same_text x y → Some (Infix.Yfx p) ≡ infix_in (entry_as k y p) x
+  unfolding infix_in entry_as infix_role
+  is_yfx k h e = cc
+
+  no_infix : (k : OperatorKind) → (k ≡ Xfx → ⊥) → (k ≡ Xfy → ⊥) → (k ≡ Yfx → ⊥) → None ≡ infix_in (entry_as k y p) x
   unfolding infix_in entry_as
-  is_fx h = cc
+  no_infix Xfx f g h = absurd (f refl)
+  no_infix Xfy f g h = absurd (g refl)
+  no_infix Yfx f g h = absurd (h refl)
+  no_infix Fy f g h = refl
+  no_infix Fx f g h = refl
 
-  is_fy : k ≡ kind_fy → noInfix ≡ infix_in (entry_as k y p) x
+  no_name : (k : OperatorKind) → false ≡ same_text x y → None ≡ infix_in (entry_as k y p) x
   unfolding infix_in entry_as
-  is_fy h = cc
+  no_name Xfx e = rw (sym e)
+  no_name Xfy e = rw (sym e)
+  no_name Yfx e = rw (sym e)
+  no_name Fy e = refl
+  no_name Fx e = refl
 
-  is_xfx : k ≡ kind_xfx → true ≡ same_text x y → isXfx p ≡ infix_in (entry_as k y p) x
-  unfolding infix_in entry_as infix_as infix_role
-  is_xfx h e = cc
-
-  is_xfy : k ≡ kind_xfy → true ≡ same_text x y → isXfy p ≡ infix_in (entry_as k y p) x
-  unfolding infix_in entry_as infix_as infix_role
-  is_xfy h e = cc
-
-  is_yfx : (k ≡ kind_fx → ⊥) → (k ≡ kind_fy → ⊥) → (k ≡ kind_xfx → ⊥) → (k ≡ kind_xfy → ⊥) → true ≡ same_text x y → isYfx p ≡ infix_in (entry_as k y p) x
-  unfolding infix_in entry_as infix_as infix_role
-  is_yfx f g h i e = cc (ne_eqb k kind_fx f, ne_eqb k kind_fy g, ne_eqb k kind_xfx h, ne_eqb k kind_xfy i)
-
-  other_name : (a b : Bool) → false ≡ same_text x y → noInfix ≡ infix_in (cond a (prefix_op y (fx p)) (cond b (prefix_op y (fy p)) (infix_op y (infix_as k p)))) x
-  unfolding infix_in
-  other_name true b e = refl
-  other_name false true e = refl
-  other_name false false e = rw (sym e)
-
-  no_name : false ≡ same_text x y → noInfix ≡ infix_in (entry_as k y p) x
-  unfolding entry_as
-  no_name e = other_name (eqb k kind_fx) (eqb k kind_fy) e
-
-module _ (o : Operator) (place : ℕ) (n : ShortName) (r : Bool) (there : entry_of o ≡ entry_at place) (text : r ≡ same_text (spelt n) (trimmed o.0 o.1 o.2)) where
+module _ (o : Operator) (place : ℕ) (n : ShortName) (v : Bool) (there : entry_of o ≡ entry_at place) (text : v ≡ not (bytes_eq n.first n.second n.third o.0 o.1 o.2)) where
   abbrev named : List ℕ
   named = trimmed o.0 o.1 o.2
 
-  as-fx : o.3 ≡ kind_fx → noInfix ≡ infix_in (entry_at place) (spelt n)
-  as-fx h = cc (is_fx o.3 o.4 (spelt n) named h)
+  same : v ≡ false → true ≡ same_text (spelt n) named
+  same = same_name n.first n.second n.third o.0 o.1 o.2 v text
 
-  as-fy : o.3 ≡ kind_fy → noInfix ≡ infix_in (entry_at place) (spelt n)
-  as-fy h = cc (is_fy o.3 o.4 (spelt n) named h)
+  as-xfx : v ≡ false → o.3 ≡ Xfx → Some (Infix.Xfx o.4) ≡ infix_in (entry_at place) (spelt n)
+  as-xfx e h = cc (is_xfx o.4 (spelt n) named o.3 h (same e))
 
-  as-xfx : not r ≡ false → o.3 ≡ kind_xfx → isXfx o.4 ≡ infix_in (entry_at place) (spelt n)
-  as-xfx e h = cc (is_xfx o.3 o.4 (spelt n) named h (sym (not-false r e) ∙ text))
+  as-xfy : v ≡ false → o.3 ≡ Xfy → Some (Infix.Xfy o.4) ≡ infix_in (entry_at place) (spelt n)
+  as-xfy e h = cc (is_xfy o.4 (spelt n) named o.3 h (same e))
 
-  as-xfy : not r ≡ false → o.3 ≡ kind_xfy → isXfy o.4 ≡ infix_in (entry_at place) (spelt n)
-  as-xfy e h = cc (is_xfy o.3 o.4 (spelt n) named h (sym (not-false r e) ∙ text))
+  as-yfx : v ≡ false → o.3 ≡ Yfx → Some (Infix.Yfx o.4) ≡ infix_in (entry_at place) (spelt n)
+  as-yfx e h = cc (is_yfx o.4 (spelt n) named o.3 h (same e))
 
-  as-yfx : not r ≡ false → (o.3 ≡ kind_fx → ⊥) → (o.3 ≡ kind_fy → ⊥) → (o.3 ≡ kind_xfx → ⊥) → (o.3 ≡ kind_xfy → ⊥) → isYfx o.4 ≡ infix_in (entry_at place) (spelt n)
-  as-yfx e f g h i = cc (is_yfx o.3 o.4 (spelt n) named f g h i (sym (not-false r e) ∙ text))
+  as-prefix : (o.3 ≡ Xfx → ⊥) → (o.3 ≡ Xfy → ⊥) → (o.3 ≡ Yfx → ⊥) → None ≡ infix_in (entry_at place) (spelt n)
+  as-prefix f g h = cc (no_infix o.4 (spelt n) named o.3 f g h)
 
-  other : not r ≡ true → noInfix ≡ infix_in (entry_at place) (spelt n)
-  other e = cc (no_name o.3 o.4 (spelt n) named (sym (not-true r e) ∙ text))
+  other : v ≡ true → None ≡ infix_in (entry_at place) (spelt n)
+  other e = cc (no_name o.4 (spelt n) named o.3 (other_named n.first n.second n.third o.0 o.1 o.2 v text e))
 
-ruleset ways = (other, as-fx, as-fy, as-xfx, as-xfy, as-yfx, rules)
+ruleset ways = (other, as-xfx, as-xfy, as-yfx, as-prefix, rules)
 
-pub returns-then-not-same_name : goal.returns-then-not-same_name
-returns-then-not-same_name c = search ways
+pub returns-then-ne : goal.returns-then-ne
+returns-then-ne c = search ways
 
-pub returns-in-4 : goal.returns-in-4
-returns-in-4 c = search ways
+pub returns-in-Xfx : goal.returns-in-Xfx
+returns-in-Xfx c = search ways
 
-pub returns-in-3 : goal.returns-in-3
-returns-in-3 c = search ways
+pub returns-in-Xfy : goal.returns-in-Xfy
+returns-in-Xfy c = search ways
 
-pub returns-in-0 : goal.returns-in-0
-returns-in-0 c = search ways
-
-pub returns-in-1 : goal.returns-in-1
-returns-in-1 c = search ways
+pub returns-in-Yfx : goal.returns-in-Yfx
+returns-in-Yfx c = search ways
 
 pub returns-in_default : goal.returns-in_default
 returns-in_default c = search ways

@@ -5,6 +5,7 @@ use mathlib.Core.Bool.{Bool, true, false, not}
 use mathlib.Core.List.{List}
 use borrow.Author.Rules.{rules}
 use borrow.Author.Tests.{not-true}
+use Rattle.std.specs.Prelude.{Option}
 use Rattle.reader.specs.Token.{same_text}
 use Rattle.reader.specs.Ops.{operators, find_pre, find_inf, prefix_of, infix_of}
 use Rattle.reader.specs.Roles.{prefix_role, infix_role, roles_of}
@@ -13,7 +14,7 @@ use Rattle.reader.specs.declared.ops.ShortName.{ShortName}
 use Rattle.reader.specs.declared.roles.Prefix.{Prefix}
 use Rattle.reader.specs.declared.roles.Infix.{Infix}
 use Rattle.reader.specs.declared.roles.Roles.{Roles}
-use Rattle.reader.proofs.Finding.{name_of, by_bytes, by_trimmed, no_roles, filtered}
+use Rattle.reader.proofs.Finding.{name_of, by_bytes, by_trimmed, bytes_eq, same_bytes, no_roles, filtered}
 use Rattle.reader.proofs.ops.short_roles.Goals as goal
 
 abbrev start : List ℕ → Bool
@@ -27,10 +28,10 @@ module _ (n : ShortName) where
       let fails : r ≡ false = not-true r f in
       filtered start refl (spelt n) (cc)
 
-  whole : (m : Bool) (p : Prefix) (q : Infix) (i j : ℕ) → m ≡ same_text (spelt n) (trimmed 45 32 32) → PrefixPlace n i → p ≡ prefix_in (entry_at i) (spelt n) → InfixPlace n j → q ≡ infix_in (entry_at j) (spelt n) →
+  whole : (m : Bool) (p : Option Prefix) (q : Option Infix) (i j : ℕ) → m ≡ bytes_eq n.first n.second n.third 45 32 32 → PrefixPlace n i → p ≡ prefix_in (entry_at i) (spelt n) → InfixPlace n j → q ≡ infix_in (entry_at j) (spelt n) →
       ◌≡◌ {A = Roles} (record { minus = m; prefix = p; «infix» = q }) (roles_of operators (spelt n))
   unfolding roles_of trimmed
-  whole m p q i j e at_i f at_j g = cc (at_i.leads, at_j.leads)
+  whole m p q i j e at_i f at_j g = cc (same_bytes n.first n.second n.third 45 32 32, at_i.leads, at_j.leads)
 
 ruleset ways = (skipped, whole, rules)
 
