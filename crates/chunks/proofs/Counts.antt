@@ -15,7 +15,7 @@ use Rattle.lexer.proofs.Cursors.{walk_offset, walk-valid}
 use Rattle.chunks.specs.Reader.{Passed, stopped, pass, Gives, handed, more, never, judged, given, reading, Passable}
 use Rattle.chunks.specs.Verdict.{Verdict, settled, too_long, waiting, verdict}
 use Rattle.chunks.specs.declared.layout.Mode.{Mode}
-use Rattle.chunks.specs.declared.pass.Why.TheVariants.{Starts, Waits, Stops}
+use Rattle.chunks.specs.declared.layout.Why.TheVariants.{Starts, Waits, Stops}
 use Rattle.chunks.proofs.Hands.{hand_right}
 use Rattle.chunks.proofs.Passing.{OnwardTo, pass-onward}
 use Rattle.chunks.proofs.Verdicts.{Right}

@@ -14,15 +14,19 @@ use Rattle.lexer.specs.Cursor.{longest, valid, Valid}
 use Rattle.lexer.proofs.Cursors.{both, is-valid}
 use Rattle.lexer.specs.Cursor.{part}
 use Rattle.lexer.specs.declared.cursor.Cursor.{Cursor}
-use Rattle.chunks.specs.Answers.{hand_of}
+use Rattle.chunks.specs.Answers.{hand_of, EndsUnknown}
 use Rattle.chunks.specs.Feed.{full_hand, at_hand, hand_in, delivered, window_size, most_at_hand, sound, admitted, takes, place_of, leaves, gave, took, fed_by, filled_with, Behind, Moves, Fills, TakesIn, Admitted, Windowed}
 use Rattle.chunks.specs.Hand.{to_next, Held}
 use Rattle.chunks.specs.Reader.{Gives, handed, more, never, reading, Passable}
 use Rattle.chunks.specs.Shift.{unknown}
 use Rattle.chunks.specs.declared.delivery.Fed.{Fed}
-use Rattle.chunks.specs.declared.delivery.Given.{Given}
+use Rattle.std.specs.declared.result.Result.TheVariants.{Ok}
+use Rattle.std.specs.declared.option.Option.TheVariants.{None}
+use Rattle.chunks.specs.Given.{token_given}
+use Rattle.std.specs.declared.result.Result.{Result}
 use Rattle.chunks.specs.declared.delivery.Reader.{Reader}
 use Rattle.chunks.specs.declared.hand.Next.{Next}
+use Rattle.lexer.specs.declared.refusal.Fault.{Fault}
 use Rattle.chunks.specs.declared.layout.Mode.TheVariants.{Blank}
 use Rattle.chunks.proofs.Counts.{Counts, reading_counts}
 
@@ -92,8 +96,8 @@ module _ (r : Reader) (to from sum k : ℕ) where
 
   pub fed_gave : (g : Gives) → Counts from sum g → fed_by r to sum k (to_next g) ≡ gave r to k g
   unfolding to_next fed_by gave
-  fed_gave (handed t d u) q = ap (λ (i : ℕ). record { reader = record { mode = Blank; cursor = d; layout = d.offset; from = i; to = to; phase = r.phase }; taken = k; given = Given.Token t d }) (left-same d u q.0.count)
-  fed_gave (more m d l u) q = ap (λ (i : ℕ). record { reader = record { mode = m; cursor = d; layout = l; from = i; to = to; phase = r.phase }; taken = k; given = Given.More }) (left-same d u q.count)
+  fed_gave (handed t d u) q = ap (λ (i : ℕ). record { reader = record { mode = Blank; cursor = d; layout = d.offset; from = i; to = to; phase = r.phase }; taken = k; given = token_given t d }) (left-same d u q.0.count)
+  fed_gave (more m d l u) q = ap (λ (i : ℕ). record { reader = record { mode = m; cursor = d; layout = l; from = i; to = to; phase = r.phase }; taken = k; given = Ok None }) (left-same d u q.count)
   fed_gave (never w) q = refl
 
 -- bytes with the unknown one behind them
@@ -140,18 +144,19 @@ module _ (w : List ℕ) (r : Reader) (place to : ℕ) (h : Windowed w r place to
     shown-length : length shown ≡ to - place + 1
     shown-length = let n = hand-length in ap length shown-same ∙ length-append (part place to w) (unknown ∷ []) ∙ omega arith
 
+    pub window_last : EndsUnknown shown
+    window_last = shown-same ∙ ap (λ (u : List ℕ). u ++ unknown ∷ []) (sym hand-shown)
+
     pub window_held : Held shown r.cursor
     window_held =
         let n = shown-length in
         let k = h.inside in
         record {
-          last = shown-same ∙ ap (λ (u : List ℕ). u ++ unknown ∷ []) (sym hand-shown);
-          some = omega arith;
           few = omega arith;
           able = record { short = (let s = h.able.short in omega arith); line = h.able.line; column = h.able.column };
         }
 
-    module _ (ended : Bool) (x : Next) (q : x ≡ to_next (reading ended r.mode r.cursor r.layout (hand_of shown))) (sum : ℕ) (f : sum ≡ r.cursor.offset + (to - place)) where
+    module _ (ended : Bool) (x : Result Next Fault) (q : x ≡ to_next (reading ended r.mode r.cursor r.layout (hand_of shown))) (sum : ℕ) (f : sum ≡ r.cursor.offset + (to - place)) where
       abbrev given-here : Gives
       given-here = reading ended r.mode r.cursor r.layout (part place to w)
 

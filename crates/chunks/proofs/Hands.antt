@@ -7,7 +7,7 @@ use Prim.Native.Nat.{ℕ, ◌+◌, ◌-◌, ◌<◌, ◌≤◌}
 use native.Mathlib.Omega.{arith}
 use lib.Dec.{ltb}
 use lib.ListN.{length, take, drop, length-append, length-drop}
-use lib.Seq.{length-take-le, drop-append-le, take_at, take_all}
+use lib.Seq.{length-take-le, drop-append-le, take_at}
 use Rattle.lexer.specs.Cursor.{longest, start_cursor, walk, move_to, Valid}
 use Rattle.lexer.specs.Refusal.{fault}
 use Rattle.lexer.specs.Token.{Lexeme, lexeme, refused, token_since}
@@ -18,7 +18,7 @@ use Rattle.lexer.proofs.Cursors.{move_offset, move_valid}
 use Rattle.lexer.proofs.Faults.{token-refused_inside}
 use Rattle.lexer.proofs.Promises.{token_there}
 use Rattle.lexer.specs.declared.token.Source.TheVariants.{File}
-use Rattle.chunks.specs.Answers.{hand_of, Viewed, judge_of, told}
+use Rattle.chunks.specs.Answers.{hand_of, EndsUnknown, judge_of, told}
 use Rattle.chunks.specs.Hand.{to_next, next_by, Fits, Held, Starting}
 use Rattle.chunks.specs.Reader.{Passed, stopped, pass, placed, more, never, judged, given, reading, Sums, Passable}
 use Rattle.chunks.specs.Shift.{unknown, shift_token, shift_lexeme}
@@ -27,9 +27,11 @@ use Rattle.chunks.specs.Whole.{token_at, longer, limited}
 use Rattle.chunks.specs.declared.hand.Next.{Next}
 use Rattle.chunks.specs.declared.layout.Mode.{Mode}
 use Rattle.chunks.specs.declared.pass.Place.{Place}
-use Rattle.chunks.specs.declared.pass.Why.{Why}
-use Rattle.chunks.specs.declared.pass.Why.TheVariants.{Starts, Waits, Stops}
-use Rattle.chunks.specs.declared.verdict.Judgement.{Judgement}
+use Rattle.chunks.specs.declared.layout.Why.{Why}
+use Rattle.chunks.specs.declared.layout.Why.TheVariants.{Starts, Waits, Stops}
+use Rattle.chunks.specs.Given.{Given, read_to}
+use Rattle.std.specs.declared.result.Result.TheVariants.{Ok, Err}
+use Rattle.std.specs.declared.result.Result.{Result}
 use Rattle.chunks.proofs.Judges.{judge_told}
 use Rattle.chunks.proofs.Moves.{walk-moved}
 use Rattle.chunks.proofs.Passing.{Onward, placed_on}
@@ -38,9 +40,9 @@ use Rattle.chunks.proofs.Verdicts.{Right, verdict_right}
 -- ---- what is told of a token is what its verdict comes to
 pub told-next : (m : Mode) (c : Cursor) (l : ℕ) (v : List ℕ) (k : Verdict) → next_by m c l (told v k) ≡ to_next (judged m c l v k)
 unfolding next_by told to_next judged
-told-next m c l v (settled (lexeme t e x)) = ap (Next.Token (token_since l (shift_token c.offset t))) (sym (walk-moved c (take e v)))
+told-next m c l v (settled (lexeme t e x)) = ap (λ (d : Cursor). Ok (Next.Token (read_to (token_since l (shift_token c.offset t)) d))) (sym (walk-moved c (take e v)))
 told-next m c l v (settled (refused w)) = refl
-told-next m c l v too_long = refl
+told-next m c l v too_long = let k : c.offset + 0 ≡ c.offset = omega arith in ap (λ (i : ℕ). Err (fault TokenTooLong i)) k
 told-next m c l v waiting = refl
 
 -- ---- its offsets are within the bytes at hand
@@ -103,15 +105,15 @@ module _ (layout ended : Bool) (v : List ℕ) (some : 0 < length v) (c : Cursor)
       go : (refused w ≡ refused (fault TokenTooLong 0)) ⊎ (token_at layout v 0 ≡ refused w) → c.offset + w.offset ≤ longest + 1
       go (inl q) = let f : w ≡ fault TokenTooLong 0 = cc in let o = ap (λ (x : Fault). x.offset) f in let k = able.short in omega arith
       go (inr q) = let o = token-refused_inside v start_cursor File layout 0 w some q in let k = able.short in omega arith
-  verdict-fits too_long r = tt
+  verdict-fits too_long r = let k = able.short in omega arith
   verdict-fits waiting r = tt
 
   pub judgement_fits : length v < longest → Fits c (judge_of layout ended v)
   judgement_fits l = subst (Fits c) (sym (judge_told layout ended v some l)) (verdict-fits (verdict ended layout v) (hand_right layout ended v some))
 
 -- ---- a token starts further on among the bytes at hand
-module _ (s : List ℕ) (p : Place) (from : ℕ) (h : Starting s p from) (at : ℕ) (e : at ≡ p.cursor.offset - from) where
-  pub start-inside : at ≤ length s
+module _ (s : List ℕ) (z : EndsUnknown s) (p : Place) (from : ℕ) (h : Starting s p from) (at : ℕ) (e : at ≡ p.cursor.offset - from) where
+  pub start-inside : at < length s
   start-inside = let k = h.inside in omega arith
 
   hand-size : length (hand_of s) ≡ length s - 1
@@ -119,7 +121,7 @@ module _ (s : List ℕ) (p : Place) (from : ℕ) (h : Starting s p from) (at : �
 
   -- the bytes from there on end as all do
   split : drop at s ≡ drop at (hand_of s) ++ unknown ∷ []
-  split = let k = h.inside in let n = hand-size in ap (drop at) h.last ∙ drop-append-le at (hand_of s) (unknown ∷ []) (omega arith)
+  split = let k = h.inside in let n = hand-size in ap (drop at) z ∙ drop-append-le at (hand_of s) (unknown ∷ []) (omega arith)
 
   size : length (drop at (hand_of s)) ≡ length s - 1 - at
   size = let n = hand-size in let k = length-drop at (hand_of s) in omega arith
@@ -131,34 +133,18 @@ module _ (s : List ℕ) (p : Place) (from : ℕ) (h : Starting s p from) (at : �
       ap (λ (i : ℕ). take i (drop at s)) m ∙ ap (take (length (drop at (hand_of s)))) split
       ∙ take_at (drop at (hand_of s)) (unknown ∷ []) (length (drop at (hand_of s))) refl
 
-  -- as the code has them
-  abbrev rest : List ℕ
-  rest = take (length s - at) (drop at s)
-
-  all_there : rest ≡ drop at s
-  all_there = let k = length-drop at s in take_all (length s - at) (drop at s) (omega arith)
-
   some_there : 0 < length (drop at (hand_of s))
   some_there = let k = h.inside in let n = size in omega arith
-
-  pub start_viewed : Viewed rest 1025
-  start_viewed =
-      subst (λ (u : List ℕ). Viewed u 1025) (sym all_there)
-      (record {
-        some = (let k = ap length split ∙ length-append (drop at (hand_of s)) (unknown ∷ []) in omega arith);
-        last = split ∙ ap (λ (u : List ℕ). u ++ unknown ∷ []) (sym hand-from);
-        few = omega arith;
-      })
 
   able : Passable (length (drop at (hand_of s))) p.cursor
   able = let n = size in record { short = (let k = h.able.short in omega arith); line = h.able.line; column = h.able.column }
 
-  module _ (l : ℕ) (ended : Bool) (j : Judgement) (f : j ≡ judge_of (ltb l p.cursor.offset) ended (hand_of rest)) where
+  module _ (l : ℕ) (ended : Bool) (rest : List ℕ) (q : rest ≡ drop at s) (j : Given) (f : j ≡ judge_of (ltb l p.cursor.offset) ended (hand_of rest)) where
     abbrev layout : Bool
     layout = ltb l p.cursor.offset
 
     same : j ≡ judge_of layout ended (drop at (hand_of s))
-    same = f ∙ ap (λ (u : List ℕ). judge_of layout ended (hand_of u)) all_there ∙ ap (judge_of layout ended) hand-from
+    same = f ∙ ap (λ (u : List ℕ). judge_of layout ended (hand_of u)) q ∙ ap (judge_of layout ended) hand-from
 
     few_there : length (drop at (hand_of s)) < longest
     few_there = let n = size in let k = h.few in let i = h.inside in omega arith
@@ -166,7 +152,7 @@ module _ (s : List ℕ) (p : Place) (from : ℕ) (h : Starting s p from) (at : �
     pub start_fits : Fits p.cursor j
     start_fits = subst (Fits p.cursor) (sym same) (judgement_fits layout ended (drop at (hand_of s)) some_there p.cursor able few_there)
 
-    pub start_tells : (r : Next) → r ≡ next_by p.mode p.cursor l j → r ≡ to_next (given ended l (stopped p.mode p.cursor (drop (p.cursor.offset - from) (hand_of s)) Starts))
+    pub start_tells : (r : Result Next Fault) → r ≡ next_by p.mode p.cursor l j → r ≡ to_next (given ended l (stopped p.mode p.cursor (drop (p.cursor.offset - from) (hand_of s)) Starts))
     unfolding given
     start_tells r g =
         g ∙ ap (next_by p.mode p.cursor l) (same ∙ judge_told layout ended (drop at (hand_of s)) some_there few_there)
@@ -174,20 +160,7 @@ module _ (s : List ℕ) (p : Place) (from : ℕ) (h : Starting s p from) (at : �
         ∙ ap (λ (i : ℕ). to_next (judged p.mode p.cursor l (drop i (hand_of s)) (verdict ended layout (drop i (hand_of s))))) e
 
 -- ---- layout is passed over, then the token is told
-module _ (s : List ℕ) (c : Cursor) (h : Held s c) (n : ℕ) (e : n ≡ length s - 1) where
-  pub held-some : 1 ≤ length s
-  held-some = let k = h.some in omega arith
-
-  pub held-inside : n ≤ length s
-  held-inside = omega arith
-
-  -- as the code has the bytes at hand
-  abbrev held : List ℕ
-  held = take (n - 0) (drop 0 s)
-
-  held-hand : held ≡ hand_of s
-  held-hand = let m : n - 0 ≡ length s - 1 = omega arith in ap (λ (k : ℕ). take k s) m
-
+module _ (s : List ℕ) (c : Cursor) (h : Held s c) (held : List ℕ) (held-hand : held ≡ hand_of s) where
   held-size : length held ≡ length s - 1
   held-size = ap length held-hand ∙ length-take-le (length s - 1) s (omega arith)
 
@@ -211,14 +184,13 @@ module _ (s : List ℕ) (c : Cursor) (h : Held s c) (n : ℕ) (e : n ≡ length 
         let i = length-drop (p.cursor.offset - c.offset) (hand_of s) in
         let some : 0 < length (drop (p.cursor.offset - c.offset) (hand_of s)) = o.some (sym g ∙ k) in
         record {
-          last = h.last;
           ahead = o.ahead;
           inside = omega arith;
           few = h.few;
           able = record { short = (let q = o.able.short in omega arith); line = o.able.line; column = o.able.column };
         }
 
-    module _ (l : ℕ) (ended : Bool) (r : Next) (y : Why) (g : y ≡ p.why) where
+    module _ (l : ℕ) (ended : Bool) (r : Result Next Fault) (y : Why) (g : y ≡ p.why) where
       -- by what stopped it
       tells : (z : Why) → y ≡ z → r ≡ to_next (given ended l (stopped p.mode p.cursor (drop (p.cursor.offset - c.offset) (hand_of s)) z)) → r ≡ to_next (reading ended m c l (hand_of s))
       tells z k q =
@@ -227,14 +199,14 @@ module _ (s : List ℕ) (c : Cursor) (h : Held s c) (n : ℕ) (e : n ≡ length 
       pub held_starts_tells : y ≡ Starts → r ≡ to_next (given ended l (stopped p.mode p.cursor (drop (p.cursor.offset - c.offset) (hand_of s)) Starts)) → r ≡ to_next (reading ended m c l (hand_of s))
       held_starts_tells k q = tells Starts k q
 
-      pub held_waits_tells : (w : Fault) → y ≡ Waits w → r ≡ cond ended (Next.Refused w) (Next.More p.mode p.cursor l) → r ≡ to_next (reading ended m c l (hand_of s))
+      pub held_waits_tells : (w : Fault) → y ≡ Waits w → r ≡ cond ended (Err w) (Ok (Next.More p.mode p.cursor l)) → r ≡ to_next (reading ended m c l (hand_of s))
       unfolding given to_next
       held_waits_tells w k q = tells (Waits w) k (q ∙ next-by ended _ w)
         where
-          next-by : (t : Bool) (u : List ℕ) (v : Fault) → cond t (Next.Refused v) (Next.More p.mode p.cursor l) ≡ to_next (cond t (never v) (more p.mode p.cursor l u))
+          next-by : (t : Bool) (u : List ℕ) (v : Fault) → cond t (Err v) (Ok (Next.More p.mode p.cursor l)) ≡ to_next (cond t (never v) (more p.mode p.cursor l u))
           next-by true u v = refl
           next-by false u v = refl
 
-    pub held-stops_tells : (l : ℕ) (ended : Bool) (y : Why) → y ≡ p.why → (w : Fault) → y ≡ Stops w → Next.Refused w ≡ to_next (reading ended m c l (hand_of s))
+    pub held-stops_tells : (l : ℕ) (ended : Bool) (y : Why) → y ≡ p.why → (w : Fault) → y ≡ Stops w → Err w ≡ to_next (reading ended m c l (hand_of s))
     unfolding given to_next
-    held-stops_tells l ended y g w k = tells l ended (Next.Refused w) y g (Stops w) k refl
+    held-stops_tells l ended y g w k = tells l ended (Err w) y g (Stops w) k refl

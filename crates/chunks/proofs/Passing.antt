@@ -7,14 +7,13 @@ use lib.ListN.{length, drop}
 use Rattle.lexer.specs.Cursor.{longest, step, Valid}
 use Rattle.lexer.specs.declared.cursor.Cursor.{Cursor}
 use Rattle.lexer.proofs.Cursors.{step-valid}
-use Rattle.chunks.specs.Layouts.{ahead}
+use Rattle.chunks.specs.Layouts.{Turned, ahead}
 use Rattle.chunks.specs.Reader.{Passed, stopped, carried, pass, placed, Passable}
 use Rattle.chunks.specs.declared.layout.Mode.{Mode}
-use Rattle.chunks.specs.declared.layout.Turn.{Turn}
-use Rattle.chunks.specs.declared.layout.Turn.TheVariants.{On, Start, Wait, Refused}
 use Rattle.chunks.specs.declared.pass.Place.{Place}
-use Rattle.chunks.specs.declared.pass.Why.{Why}
-use Rattle.chunks.specs.declared.pass.Why.TheVariants.{Starts, Waits, Stops}
+use Rattle.chunks.specs.declared.layout.Why.{Why}
+use Rattle.chunks.specs.declared.layout.Why.TheVariants.{Starts}
+use Rattle.std.specs.declared.result.Result.TheVariants.{Ok, Err}
 
 -- from the cursor c, with n bytes at hand, to the cursor d with u left
 pub record Onward (c : Cursor) (n : ℕ) (d : Cursor) (u : List ℕ) (why : Why) : Type 0 where
@@ -45,12 +44,10 @@ pass_on (x ∷ xs) m k c a = go (λ m' j. pass_on xs m' j (step c x)) (ahead k m
     stays : (why : Why) → Onward c (length (x ∷ xs)) c (x ∷ xs) why
     stays why = here c (x ∷ xs) why a (λ _. omega arith)
 
-    go : ((m' : Mode) (j : ℕ) → Passable (length xs) (step c x) → OnwardTo (step c x) (length xs) (pass m' j (step c x) xs)) → (t : Turn)
+    go : ((m' : Mode) (j : ℕ) → Passable (length xs) (step c x) → OnwardTo (step c x) (length xs) (pass m' j (step c x) xs)) → (t : Turned)
         → OnwardTo c (length (x ∷ xs)) (carried t (λ m' j. pass m' j (step c x) xs) (stopped m c (x ∷ xs)))
-    go f (On m' j) = one_on c (length xs) x a (pass m' j (step c x) xs) (f m' j)
-    go f Start = stays Starts
-    go f (Wait w) = stays (Waits w)
-    go f (Refused w) = stays (Stops w)
+    go f (Ok n) = one_on c (length xs) x a (pass n.mode n.more (step c x) xs) (f n.mode n.more)
+    go f (Err y) = stays y
 
 -- as the code has it: from the cursor c, over the bytes u, to the place p
 pub placed_on : (m : Mode) (c : Cursor) (u : List ℕ) (p : Place) → Passable (length u) c → placed c u p ≡ pass m 0 c u → Onward c (length u) p.cursor (drop (p.cursor.offset - c.offset) u) p.why

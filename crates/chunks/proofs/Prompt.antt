@@ -17,19 +17,16 @@ use Rattle.lexer.specs.Token.{numbered, Lexeme, lexeme, refused, lexeme_since}
 use Rattle.lexer.specs.declared.refusal.Fault.{Fault}
 use Rattle.lexer.specs.declared.refusal.Refusal.TheVariants.{UnclosedComment, ForeignByte, TokenTooLong}
 use Rattle.lexer.specs.declared.cursor.Cursor.{Cursor}
-use Rattle.lexer.specs.declared.cursor.Scan.TheVariants.{Refused}
 use Rattle.lexer.specs.declared.token.Token.{Token}
 use Rattle.lexer.proofs.Cursors.{move_here}
 use Rattle.lexer.proofs.Spans.{by_test}
 use Rattle.lexer.proofs.Steps.{drop_at}
-use Rattle.chunks.specs.Layouts.{opened, slashed, starred, turn, ahead, resume}
+use Rattle.chunks.specs.Layouts.{Turned, wait, opened, slashed, starred, turn, ahead, resume}
 use Rattle.chunks.specs.declared.layout.Mode.{Mode}
-use Rattle.chunks.specs.declared.layout.Turn.{Turn}
 use Rattle.chunks.specs.declared.layout.Mode.TheVariants.{Blank as blank, Line as line, Inside as inside}
-use Rattle.chunks.specs.declared.layout.Turn.TheVariants.{On as on, Start as start, Wait as wait, Refused as stop}
 use Rattle.chunks.specs.Reader.{Passed, stopped, carried, pass, handed, more, never, judged, given, reading, Passable}
-use Rattle.chunks.specs.declared.pass.Why.{Why}
-use Rattle.chunks.specs.declared.pass.Why.TheVariants.{Starts as starts, Waits as waits, Stops as stops}
+use Rattle.chunks.specs.declared.layout.Why.{Why}
+use Rattle.chunks.specs.declared.layout.Why.TheVariants.{Starts as starts, Waits as waits, Stops as stops}
 use Rattle.chunks.specs.Shift.{unknown}
 use Rattle.chunks.specs.Verdict.{Verdict, settled, too_long, waiting, view, shown_late, by_end, verdict}
 use Rattle.chunks.specs.Whole.{longest_token, token_at, cut_at, came_to, own_byte, showing, unshown, longer_than, end_of, token_end, longer, limited, next_lexeme}
@@ -42,11 +39,12 @@ use Rattle.chunks.proofs.Reading.{Stands, PassTold, passed_told, refused_there, 
 use Rattle.chunks.proofs.Tokens.{LexemeKept, LexemeUpto, lexeme_kept}
 use Rattle.chunks.proofs.Verdicts.{Right, none_end, is-shown, is-short}
 use Rattle.chunks.proofs.Windows.{end_other, cut-length, cut_byte, shows_cut, shows_end, came_hit, near_gone, digit_token, numbered_hit, plain_hit}
+use Rattle.std.specs.declared.result.Result.TheVariants.{Ok, Err}
 
 -- ---- a wait in layout
 
 -- the unknown byte at the front is refused, in each mode
-at-unknown : (s : List ℕ) (m : Mode) (at : ℕ) (r : List ℕ) → drop at s ≡ unknown ∷ r → resume s m at ≡ Refused (fault ForeignByte at)
+at-unknown : (s : List ℕ) (m : Mode) (at : ℕ) (r : List ℕ) → drop at s ≡ unknown ∷ r → resume s m at ≡ Err (fault ForeignByte at)
 unfolding turn class_of
 at-unknown s blank at r d = turn_tells s blank at (unknown ∷ []) r d
 at-unknown s line at r d = turn_tells s line at (unknown ∷ []) r d
@@ -54,27 +52,27 @@ at-unknown s (inside o) at r d = turn_tells s (inside o) at (unknown ∷ []) r d
 
 module _ (s : List ℕ) (at : ℕ) (r : List ℕ) where
   -- behind a slash
-  after-slash : drop at s ≡ slash ∷ unknown ∷ r → resume s blank at ≡ Refused (fault ForeignByte (at + 1))
+  after-slash : drop at s ≡ slash ∷ unknown ∷ r → resume s blank at ≡ Err (fault ForeignByte (at + 1))
   unfolding turn slashed class_of
   after-slash d = turn_tells s blank at (slash ∷ unknown ∷ []) r d
 
   -- behind the mark that opens a comment
-  after_opening : drop at s ≡ slash ∷ star ∷ unknown ∷ r → resume s blank at ≡ Refused (fault ForeignByte (at + 2))
+  after_opening : drop at s ≡ slash ∷ star ∷ unknown ∷ r → resume s blank at ≡ Err (fault ForeignByte (at + 2))
   unfolding turn slashed opened class_of
   after_opening d = turn_tells s blank at (slash ∷ star ∷ unknown ∷ []) r d
 
   -- behind a star in a comment
-  after-star : (o : ℕ) → drop at s ≡ star ∷ unknown ∷ r → resume s (inside o) at ≡ Refused (fault ForeignByte (at + 1))
+  after-star : (o : ℕ) → drop at s ≡ star ∷ unknown ∷ r → resume s (inside o) at ≡ Err (fault ForeignByte (at + 1))
   unfolding turn starred class_of
   after-star o d = (turn_tells s (inside o) at (star ∷ unknown ∷ []) r d).0 ∙ at-unknown s (inside o) (at + 1) r (rest_there s at star (unknown ∷ r) d)
 
 -- where a turn over the bytes u waits, the text that has the unknown byte behind them is refused there
 module _ (s : List ℕ) (m : Mode) (at : ℕ) (u : List ℕ) where
-  abbrev Open : Turn → Type 0
-  Open (on m' k) = Unit {0}
-  Open start = Unit {0}
-  Open (wait w) = resume s m at ≡ Refused (fault ForeignByte (at + length u))
-  Open (stop w) = Unit {0}
+  abbrev Open : Turned → Type 0
+  Open (Ok n) = Unit {0}
+  Open (Err starts) = Unit {0}
+  Open (Err (waits w)) = resume s m at ≡ Err (fault ForeignByte (at + length u))
+  Open (Err (stops w)) = Unit {0}
 
 module _ (s : List ℕ) (at : ℕ) (r : List ℕ) where
   -- behind the mark that opens a comment, behind a slash, behind a star in a comment, and where nothing is at hand
@@ -98,7 +96,7 @@ module _ (s : List ℕ) (at : ℕ) (r : List ℕ) where
 
   none_open : (m : Mode) → drop at s ≡ unknown ∷ r → Open s m at [] (turn m at [])
   unfolding turn
-  none_open m d = let e : at ≡ at + 0 = omega arith in at-unknown s m at r d ∙ ap (λ (k : ℕ). Refused (fault ForeignByte k)) e
+  none_open m d = let e : at ≡ at + 0 = omega arith in at-unknown s m at r d ∙ ap (λ (k : ℕ). Err (fault ForeignByte k)) e
 
   -- so in each mode
   turn_open : (m : Mode) (u : List ℕ) → drop at s ≡ u ++ unknown ∷ r → Open s m at u (turn m at u)
@@ -118,11 +116,11 @@ module _ (s : List ℕ) (at : ℕ) (r : List ℕ) where
       (λ g. let k = eqb-true x star g in subst (λ (c : ℕ). Open s (inside o) at (c ∷ xs) (starred o xs)) (sym k) (starred_open o xs (d ∙ ap (λ (c : ℕ). c ∷ (xs ++ unknown ∷ r)) k))) (λ _. tt))
 
 -- a wait is for the byte behind two at most, and not for a foreign one: the refusal that it holds for the end of the text is another
-abbrev Other : List ℕ → Turn → Type 0
-Other u (on m' k) = Unit {0}
-Other u start = Unit {0}
-Other u (wait w) = (w.refusal ≡ ForeignByte → ⊥) × (length u ≤ 2)
-Other u (stop w) = Unit {0}
+abbrev Other : List ℕ → Turned → Type 0
+Other u (Ok n) = Unit {0}
+Other u (Err starts) = Unit {0}
+Other u (Err (waits w)) = (w.refusal ≡ ForeignByte → ⊥) × (length u ≤ 2)
+Other u (Err (stops w)) = Unit {0}
 
 -- the refusals that a wait holds
 comment_other : UnclosedComment ≡ ForeignByte → ⊥
@@ -165,12 +163,12 @@ LastTurn (stopped m c u (stops w)) = Unit {0}
 
 -- one turn of the passing
 one-turn : (m : Mode) (c : Cursor) (x : ℕ) (xs : List ℕ) → ((m' : Mode) (k : ℕ) → LastTurn (pass m' k (step c x) xs))
-    → (t : Turn) → turn m c.offset (x ∷ xs) ≡ t → LastTurn (carried t (λ m' k. pass m' k (step c x) xs) (stopped m c (x ∷ xs)))
+    → (t : Turned) → turn m c.offset (x ∷ xs) ≡ t → LastTurn (carried t (λ m' k. pass m' k (step c x) xs) (stopped m c (x ∷ xs)))
 unfolding carried
-one-turn m c x xs next (on m' k) e = next m' k
-one-turn m c x xs next start e = tt
-one-turn m c x xs next (wait w) e = e
-one-turn m c x xs next (stop w) e = tt
+one-turn m c x xs next (Ok n) e = next n.mode n.more
+one-turn m c x xs next (Err starts) e = tt
+one-turn m c x xs next (Err (waits w)) e = e
+one-turn m c x xs next (Err (stops w)) e = tt
 
 -- and so all of them
 last_turn : (u : List ℕ) (m : Mode) (k : ℕ) (c : Cursor) → LastTurn (pass m k c u)

@@ -7,21 +7,19 @@ use Prim.Native.Nat.{ℕ, ◌+◌, ◌-◌, ◌<◌, ◌≤◌}
 use native.Mathlib.Omega.{arith}
 use borrow.Author.Tests.{eqb-true, eq-eqb, lt-ltb, le-ltb}
 use lib.Dec.{eqb, ltb}
-use lib.ListN.{length, take, drop, get_or, length-append}
+use lib.ListN.{length, drop, get_or, length-append}
 use lib.Seq.{length-take-le}
 use Rattle.lexer.specs.Chars.{is, class_of, decimal_digit}
 use Rattle.lexer.specs.Digits.{is_digit}
 use Rattle.lexer.specs.Cursor.{start_cursor}
-use Rattle.lexer.specs.Number.{number_token, number_end}
-use Rattle.lexer.specs.Refusal.{number_of, fault}
-use Rattle.lexer.specs.Token.{Lexeme, lexeme, refused, token_since, read_lexeme, answered, next_token}
+use Rattle.lexer.specs.Number.{number_token, number_end, NumberRead}
+use Rattle.lexer.specs.Refusal.{number_of, fault, refuse}
+use Rattle.lexer.specs.Token.{Lexeme, lexeme, refused, token_since, read_lexeme, answered, next_token, token_read, Answer}
 use Rattle.lexer.specs.declared.refusal.Fault.{Fault}
 use Rattle.lexer.specs.declared.refusal.Refusal.{Refusal}
 use Rattle.lexer.specs.declared.refusal.Refusal.TheVariants.{ForeignByte}
 use Rattle.lexer.specs.declared.cursor.Cursor.{Cursor}
-use Rattle.lexer.specs.declared.cursor.Scan.TheVariants.{Stop}
 use Rattle.lexer.specs.declared.number.NumberToken.{NumberToken}
-use Rattle.lexer.specs.declared.token.Answer.{Answer}
 use Rattle.lexer.specs.declared.token.Token.{Token}
 use Rattle.lexer.specs.declared.token.Source.TheVariants.{File}
 use Rattle.lexer.proofs.Calls.{read_promises}
@@ -32,7 +30,8 @@ use Rattle.lexer.proofs.Layouts.{Before, layout_ends}
 use Rattle.lexer.proofs.Numbers.{whole_ends, partial_ends}
 use Rattle.lexer.proofs.Promises.{class_digit, token_there}
 use Rattle.lexer.proofs.Spans.{by_test}
-use Rattle.chunks.specs.Answers.{answer_came, of_answer, hand_of}
+use Rattle.chunks.specs.Answers.{answer_came, of_answer, hand_of, EndsUnknown}
+use Rattle.chunks.proofs.Views.{first_there}
 use Rattle.chunks.specs.Hand.{to_next, next_by, Fits, Held, Brief}
 use Rattle.chunks.specs.Reader.{Gives, handed, more, never, Passed, stopped, pass, placed, judged, given, reading, moved_by, Sums, Passable}
 use Rattle.chunks.specs.Shift.{unknown, shift_token}
@@ -41,9 +40,12 @@ use Rattle.chunks.specs.declared.hand.Next.{Next}
 use Rattle.chunks.specs.Verdict.{Verdict, settled, too_long, waiting, verdict}
 use Rattle.chunks.specs.declared.layout.Mode.{Mode}
 use Rattle.chunks.specs.declared.pass.Place.{Place}
-use Rattle.chunks.specs.declared.pass.Why.{Why}
-use Rattle.chunks.specs.declared.pass.Why.TheVariants.{Starts, Waits, Stops}
-use Rattle.chunks.specs.declared.verdict.Judgement.{Judgement}
+use Rattle.chunks.specs.declared.layout.Why.{Why}
+use Rattle.chunks.specs.declared.layout.Why.TheVariants.{Starts, Waits, Stops}
+use Rattle.chunks.specs.Given.{Given, read_to}
+use Rattle.lexer.specs.declared.token.TokenRead.{TokenRead}
+use Rattle.std.specs.declared.result.Result.TheVariants.{Ok, Err}
+use Rattle.std.specs.declared.result.Result.{Result}
 use Rattle.chunks.specs.declared.layout.Mode.TheVariants.{Blank as blank}
 use Rattle.chunks.proofs.AsCalls.{Fifteen, next_cases, answers}
 use Rattle.chunks.proofs.Counts.{Counts, reading_counts}
@@ -53,6 +55,7 @@ use Rattle.chunks.proofs.Reading.{Stands, Tells, reading_tells}
 use Rattle.chunks.proofs.Shifted.{shift_next, reading-from_start}
 use Rattle.chunks.proofs.Verdicts.{digit_seen}
 use Rattle.chunks.proofs.Windows.{true-false}
+use Rattle.std.specs.declared.result.Result.TheVariants.{Ok, Err}
 
 -- ---- in a text of fewer than 1,024 bytes no token is longer
 number-inside : (s : List ℕ) (at : ℕ) → at < length s → is decimal_digit (get_or s at 0) ≡ true → number_end (number_token s at) ≤ length s
@@ -62,10 +65,10 @@ number-inside s at l c = go (number_token s at) refl
     digit : is_digit 10 (get_or s at 0) ≡ true
     digit = class_digit (get_or s at 0) (eqb-true (class_of (get_or s at 0)) decimal_digit c)
 
-    go : (x : NumberToken) → number_token s at ≡ x → number_end x ≤ length s
-    go (NumberToken.Whole m e) f = (whole_ends s at (get_or s at 0) (digit_seen s at l c) digit m e f).plain.span.inside
-    go (NumberToken.Partial m e) f = (partial_ends s at (get_or s at 0) (digit_seen s at l c) digit m e f).ends.plain.span.inside
-    go (NumberToken.Refused w) f = omega arith
+    go : (x : NumberRead) → number_token s at ≡ x → number_end x ≤ length s
+    go (Ok (NumberToken.Whole m e)) f = (whole_ends s at (get_or s at 0) (digit_seen s at l c) digit m e f).plain.span.inside
+    go (Ok (NumberToken.Partial m e)) f = (partial_ends s at (get_or s at 0) (digit_seen s at l c) digit m e f).ends.plain.span.inside
+    go (Err w) f = omega arith
 
 token-inside : (layout : Bool) (s : List ℕ) (at : ℕ) → end_of (token_at layout s at) ≤ length s
 unfolding end_of
@@ -80,7 +83,7 @@ unfolding unshown longer_than
 short_none s h from at f = go (token_end (ltb from at) s at) end_inside
   where
     inside : at < length s
-    inside = let b : Before from (length s) (Stop at) = subst (Before from (length s)) f (layout_ends s from) in b.1
+    inside = let b : Before from (length s) (Ok at) = subst (Before from (length s)) f (layout_ends s from) in b.1
 
     end_inside : token_end (ltb from at) s at ≤ length s
     end_inside = by_test (λ (e : ℕ). e ≤ length s) (is decimal_digit (get_or s at 0)) _ _ (number-inside s at inside) (λ _. token-inside (ltb from at) s at)
@@ -96,9 +99,9 @@ short_none s h from at f = go (token_end (ltb from at) s at) end_inside
     go e l = by_test (λ (b : Bool). b ≡ false) (eqb e 0) _ _ (λ _. hidden (showing (token_at (ltb from at) s at)) (many (own_byte (token_at (ltb from at) s at)))) (λ _. le-ltb (at + longest_token) e (omega arith))
 
 -- ---- the token call from the start of such a text, and what the bytes give
-abbrev next_of : Answer → Next
-next_of (Answer.Read t d) = Next.Token t d
-next_of (Answer.Refused w c) = Next.Refused w
+abbrev next_of : Answer → Result Next Fault
+next_of (Ok p) = Ok (Next.Token p)
+next_of (Err p) = Err p.fault
 
 module _ (s : List ℕ) (few : length s < longest_token) where
   call_same : next_token File s start_cursor ≡ answered s start_cursor (next_lexeme s 0)
@@ -108,11 +111,11 @@ module _ (s : List ℕ) (few : length s < longest_token) where
       go (inl q) = answers s start_cursor (record { short = omega arith; offset = omega arith; line = omega arith; column = omega arith }) (next_lexeme s 0) q
       go (inr l) = absurd (true-false (longer (ltb 0 l.long.start) s l.long.start) l.long.long (short_none s few 0 l.long.start l.long.starts))
 
-  read_same : (t : Token) (d : Cursor) → Next' s start_cursor t d → next_token File s start_cursor ≡ Answer.Read t d
+  read_same : (t : Token) (d : Cursor) → Next' s start_cursor t d → next_token File s start_cursor ≡ token_read t d
   unfolding answered
-  read_same t d n = call_same ∙ ap (answered s start_cursor) n.reads ∙ ap (Answer.Read t) (sym n.moved)
+  read_same t d n = call_same ∙ ap (answered s start_cursor) n.reads ∙ ap (token_read t) (sym n.moved)
 
-  refused-same : (w : Fault) → next_lexeme s 0 ≡ refused w → next_token File s start_cursor ≡ Answer.Refused w start_cursor
+  refused-same : (w : Fault) → next_lexeme s 0 ≡ refused w → next_token File s start_cursor ≡ refuse w start_cursor
   unfolding answered
   refused-same w e = call_same ∙ ap (answered s start_cursor) e
 
@@ -120,7 +123,7 @@ module _ (s : List ℕ) (few : length s < longest_token) where
 stands_start : (v z : List ℕ) → Stands (v ++ z) start_cursor z blank start_cursor v
 stands_start v z = fed_stands (v ++ z) start_cursor v z blank start_cursor [] (begun-after (v ++ z))
 
-came_5 : (n : ℕ) → answer_came n (Answer.Refused (fault ForeignByte n) start_cursor) ≡ true
+came_5 : (n : ℕ) → answer_came n (refuse (fault ForeignByte n) start_cursor) ≡ true
 unfolding answer_came
 came_5 n = eq-eqb n n refl
 
@@ -147,14 +150,14 @@ module _ (ended : Bool) (v z : List ℕ) (over : ended ≡ true → z ≡ []) (o
 -- the same from any cursor, where the layout before the token begins
 next_of_shifted : (c : Cursor) (s : List ℕ) (a : Answer) → a ≡ next_token File s start_cursor → shift_next c (next_of a) ≡ next_by blank c c.offset (of_answer a)
 unfolding next_by of_answer
-next_of_shifted c s (Answer.Read t d) e =
-    let p = read_promises File s start_cursor t d (sym e) in
-    let k : c.offset + t.layout ≡ c.offset = omega (arith, p.layout) in
-    ap (λ (i : ℕ). Next.Token (token_since i (shift_token c.offset t)) (moved_by c d)) k
-next_of_shifted c s (Answer.Refused w k) e = refl
+next_of_shifted c s (Ok q) e =
+    let p = read_promises File s start_cursor q.token q.next (sym e) in
+    let k : c.offset + q.token.layout ≡ c.offset = omega (arith, p.layout) in
+    ap (λ (i : ℕ). Ok (Next.Token (read_to (token_since i (shift_token c.offset q.token)) (moved_by c q.next)))) k
+next_of_shifted c s (Err p) e = refl
 
 -- ---- as the code has it: the bytes at hand, with the unknown byte behind them
-module _ (s : List ℕ) (c : Cursor) (h : Brief s c) (ended : Bool) where
+module _ (s : List ℕ) (last : EndsUnknown s) (c : Cursor) (h : Brief s c) (ended : Bool) where
   abbrev v : List ℕ
   v = hand_of s
 
@@ -171,7 +174,7 @@ module _ (s : List ℕ) (c : Cursor) (h : Brief s c) (ended : Bool) where
 
   text_of : (t : Bool) → cond t v s ≡ v ++ tail t
   text_of true = sym (append-nil v)
-  text_of false = h.held.last
+  text_of false = last
 
   text_few : (t : Bool) → length (cond t v s) < longest_token
   text_few true = let n = size in let b = h.brief in omega arith
@@ -194,19 +197,20 @@ module _ (s : List ℕ) (c : Cursor) (h : Brief s c) (ended : Bool) where
         (ap (answer_came (length v)) (sym w ∙ sym e) ∙ ap (λ (i : ℕ). answer_came i a) (sym n) ∙ sym f ∙ g)
         ∙ ap next_of (sym w ∙ sym e)
 
-    pub brief_tells : (j : Judgement) → j ≡ of_answer a → (r : Next) → r ≡ next_by blank c c.offset j → r ≡ to_next (reading ended blank c c.offset v)
+    pub brief_tells : (j : Given) → j ≡ of_answer a → (r : Result Next Fault) → r ≡ next_by blank c c.offset j → r ≡ to_next (reading ended blank c c.offset v)
     brief_tells j q r k = k ∙ ap (next_by blank c c.offset) q ∙ sym (next_of_shifted c text a e) ∙ ap (shift_next c) (sym told-start) ∙ sym (reading-from_start ended c v)
 
-    pub brief_fits : (j : Judgement) → j ≡ of_answer a → Fits c j
+    pub brief_fits : (j : Given) → j ≡ of_answer a → Fits c j
     unfolding to_next of_answer
     brief_fits j q = subst (Fits c) (sym q) (go a refl)
       where
         able : Passable (length v) c
         able = let n = size in record { short = (let k = h.held.able.short in omega arith); line = h.held.able.line; column = h.held.able.column }
 
-        counted : (t : Token) (d : Cursor) (y : Gives) → to_next y ≡ Next.Token t d → Counts 0 (0 + length v) y → Sums c d
+        counted : (t : Token) (d : Cursor) (y : Gives) → to_next y ≡ Ok (Next.Token (read_to t d)) → Counts 0 (0 + length v) y → Sums c d
         counted t d (handed t₁ d₁ u) q r =
-            let i : d₁ ≡ d = cc in
+            let same : read_to t₁ d₁ ≡ read_to t d = cc in
+            let i : d₁ ≡ d = ap (λ (x : TokenRead). x.next) same in
             let n = r.0.count in
             let k = able.short in
             let l₁ = able.line in
@@ -222,32 +226,32 @@ module _ (s : List ℕ) (c : Cursor) (h : Brief s c) (ended : Bool) where
         text-size false = omega arith
 
         go : (b : Answer) → a ≡ b → Fits c (of_answer b)
-        go (Answer.Read t d) k =
-            let m = counted t d (reading ended blank start_cursor 0 v) (told-start ∙ ap next_of k)
+        go (Ok q) k =
+            let m = counted q.token q.next (reading ended blank start_cursor 0 v) (told-start ∙ ap next_of k)
             (reading_counts ended blank start_cursor 0 v (record { short = (let i = able.short in omega arith); line = omega arith; column = omega arith })) in
-            let p = read_promises File text start_cursor t d (sym e ∙ k) in
+            let p = read_promises File text start_cursor q.token q.next (sym e ∙ k) in
             record { sums = m; start = (let i = m.offset in omega (arith, p.ahead)) }
-        go (Answer.Refused w b) k =
-            let i = placed-inside text start_cursor w (refusal_placed text start_cursor File w b (sym e ∙ k)) in
+        go (Err q) k =
+            let i = placed-inside text start_cursor q.fault (refusal_placed text start_cursor File q.fault q.cursor (sym e ∙ k)) in
             let l = text-size ended in
             let n = h.held.able.short in
-            let o = h.held.some in
+            let o = first_there s last in
             omega arith
 
 -- ---- the call came to the unknown byte: more is wanted
 
 -- a refusal 5 points at a byte of the text
-five_inside : (s : List ℕ) (n : ℕ) → next_token File s start_cursor ≡ Answer.Refused (fault ForeignByte n) start_cursor → n < length s
+five_inside : (s : List ℕ) (n : ℕ) → next_token File s start_cursor ≡ refuse (fault ForeignByte n) start_cursor → n < length s
 five_inside s n e = (refusal_placed s start_cursor File (fault ForeignByte n) start_cursor e).inside
 
-came_fault : (n : ℕ) (w : Fault) → answer_came n (Answer.Refused w start_cursor) ≡ true → w ≡ fault ForeignByte n
+came_fault : (n : ℕ) (w : Fault) → answer_came n (refuse w start_cursor) ≡ true → w ≡ fault ForeignByte n
 unfolding answer_came
 came_fault n w e =
     let p = both (eqb (number_of w.refusal) 5) (eqb w.offset n) e in
     let r = number_once w.refusal ForeignByte (eqb-true (number_of w.refusal) 5 p.0) in
     ap (λ (k : Refusal). fault k w.offset) r ∙ ap (fault ForeignByte) (eqb-true w.offset n p.1)
 
-came_read : (n : ℕ) (t : Token) (d : Cursor) → answer_came n (Answer.Read t d) ≡ true → ⊥
+came_read : (n : ℕ) (t : Token) (d : Cursor) → answer_came n (token_read t d) ≡ true → ⊥
 unfolding answer_came
 came_read n t d e = let y : ◌≡◌ {A = ℕ} 0 1 = cc in omega arith
 
@@ -283,44 +287,40 @@ next_more c (handed t d u) h q i = absurd i
 next_more c (never w) h q i = absurd i
 
 -- by where layout stopped
-more_place : (ended : Bool) (m : Mode) (c : Cursor) (l : ℕ) (u : List ℕ) (y : Why) → IsMore (given ended l (stopped m c u y)) → Next.More m c l ≡ to_next (given ended l (stopped m c u y))
+more_place : (ended : Bool) (m : Mode) (c : Cursor) (l : ℕ) (u : List ℕ) (y : Why) → IsMore (given ended l (stopped m c u y)) → Ok (Next.More m c l) ≡ to_next (given ended l (stopped m c u y))
 unfolding given judged to_next
 more_place ended m c l u Starts i = go (verdict ended (ltb l c.offset) u) i
   where
-    go : (k : Verdict) → IsMore (judged m c l u k) → Next.More m c l ≡ to_next (judged m c l u k)
+    go : (k : Verdict) → IsMore (judged m c l u k) → Ok (Next.More m c l) ≡ to_next (judged m c l u k)
     go (settled (lexeme t e x)) i = absurd i
     go (settled (refused w)) i = absurd i
     go too_long i = absurd i
     go waiting i = refl
 more_place ended m c l u (Waits w) i = go ended i
   where
-    go : (t : Bool) → IsMore (cond t (never w) (more m c l u)) → Next.More m c l ≡ to_next (cond t (never w) (more m c l u))
+    go : (t : Bool) → IsMore (cond t (never w) (more m c l u)) → Ok (Next.More m c l) ≡ to_next (cond t (never w) (more m c l u))
     go true i = absurd i
     go false i = refl
 more_place ended m c l u (Stops w) i = absurd i
 
-module _ (s : List ℕ) (c : Cursor) (h : Brief s c) (ended : Bool) (n : ℕ) (i : n ≡ length s - 1) (a : Answer) (e : a ≡ next_token File (text s c h ended) start_cursor) (t : Bool) (f : t ≡ answer_came n a) (g : t ≡ true) where
+module _ (s : List ℕ) (last : EndsUnknown s) (c : Cursor) (h : Brief s c) (ended : Bool) (n : ℕ) (i : n ≡ length s - 1) (a : Answer) (e : a ≡ next_token File (text s last c h ended) start_cursor) (t : Bool) (f : t ≡ answer_came n a) (g : t ≡ true) where
   brief_asks : IsMore (reading ended blank c c.offset (hand_of s))
   brief_asks =
-      let k : n ≡ length (hand_of s) = i ∙ sym (size s c h ended) in
-      let w = ap (λ (x : List ℕ). next_token File x start_cursor) (text_of s c h ended ended) in
+      let k : n ≡ length (hand_of s) = i ∙ sym (size s last c h ended) in
+      let w = ap (λ (x : List ℕ). next_token File x start_cursor) (text_of s last c h ended ended) in
       next_more c (reading ended blank start_cursor 0 (hand_of s)) (reading ended blank c c.offset (hand_of s)) (reading-from_start ended c (hand_of s))
-      (start_asks ended (hand_of s) (tail s c h ended ended) (over s c h ended ended) (subst (λ (x : List ℕ). length x < longest_token) (text_of s c h ended ended) (text_few s c h ended ended))
+      (start_asks ended (hand_of s) (tail s last c h ended ended) (over s last c h ended ended) (subst (λ (x : List ℕ). length x < longest_token) (text_of s last c h ended ended) (text_few s last c h ended ended))
       (ap (answer_came (length (hand_of s))) (sym w ∙ sym e) ∙ ap (λ (j : ℕ). answer_came j a) (sym k) ∙ sym f ∙ g))
 
-  pub brief_more : (p : Place) → placed c (take (n - 0) (drop 0 s)) p ≡ pass blank 0 c (take (n - 0) (drop 0 s)) → (r : Next) → r ≡ Next.More p.mode p.cursor c.offset → r ≡ to_next (reading ended blank c c.offset (hand_of s))
-  brief_more p q r k =
-      let b : take (n - 0) (drop 0 s) ≡ hand_of s = (let j : n - 0 ≡ length s - 1 = omega arith in ap (λ (x : ℕ). take x s) j) in
+  pub brief_more : (held : List ℕ) → held ≡ hand_of s → (p : Place) → placed c held p ≡ pass blank 0 c held → (y : Next) → y ≡ Next.More p.mode p.cursor c.offset → Ok y ≡ to_next (reading ended blank c c.offset (hand_of s))
+  brief_more held b p q y k =
       let d : pass blank 0 c (hand_of s) ≡ stopped p.mode p.cursor (drop (p.cursor.offset - c.offset) (hand_of s)) p.why = sym (subst (λ (u : List ℕ). placed c u p ≡ pass blank 0 c u) b q) in
-      k ∙ more_place ended p.mode p.cursor c.offset (drop (p.cursor.offset - c.offset) (hand_of s)) p.why (subst (λ (x : Passed). IsMore (given ended c.offset x)) d brief_asks) ∙ sym (ap (λ (x : Passed). to_next (given ended c.offset x)) d)
+      ap (λ (x : Next). Ok x) k ∙ more_place ended p.mode p.cursor c.offset (drop (p.cursor.offset - c.offset) (hand_of s)) p.why (subst (λ (x : Passed). IsMore (given ended c.offset x)) d brief_asks) ∙ sym (ap (λ (x : Passed). to_next (given ended c.offset x)) d)
 
 -- ---- what the functions above it ask
 module _ (s : List ℕ) (c : Cursor) where
   pub brief_held : Brief s c → Held s c
   brief_held h = h.held
-
-  pub brief_some : Brief s c → 1 ≤ length s
-  brief_some h = let k = h.held.some in omega arith
 
   pub held_brief : Held s c → length s < longest_token → Brief s c
   held_brief h l = record { held = h; brief = l }

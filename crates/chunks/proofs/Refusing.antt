@@ -11,7 +11,8 @@ use Rattle.lexer.specs.Token.{not_valid}
 use Rattle.lexer.specs.declared.refusal.Fault.{Fault}
 use Rattle.chunks.specs.Feed.{Leaves, leaves, delivered, sound, admitted, at_hand, takes, end_of_hand, hand_in, place, filled_with, refusing, gave, took, offered, by_phase, feeding}
 use Rattle.chunks.specs.Reader.{Gives, handed, more, never, reading}
-use Rattle.chunks.specs.declared.delivery.Given.{Given}
+use Rattle.std.specs.declared.result.Result.TheVariants.{Err}
+use Rattle.chunks.specs.Given.{Given}
 use Rattle.chunks.specs.declared.delivery.Phase.{Phase}
 use Rattle.chunks.specs.declared.delivery.Reader.{Reader}
 
@@ -39,15 +40,15 @@ module _ (r : Reader) (w chunk : List ℕ) where
   behind_end_8 e h = not-admitted true e (ap (λ (t : Bool). sound r && t) (lt-leb (delivered r + length chunk) (delivered r) (omega arith)) ∙ and_none (sound r))
 
   -- ---- a refusal is repeated
-  pub again : (v : Fault) → r.phase ≡ Phase.Refused v → feeding r w chunk ≡ leaves (record { reader = r; taken = 0; given = Given.Refused v }) w
+  pub again : (v : Fault) → r.phase ≡ Phase.Refused v → feeding r w chunk ≡ leaves (record { reader = r; taken = 0; given = Err v }) w
   unfolding by_phase
   again v e = ap (λ (q : Phase). by_phase q r w chunk) e
 
   -- and so it is kept
   abbrev Keeps : Leaves → Type 0
-  Keeps (leaves f x) = (v : Fault) → f.given ≡ Given.Refused v → f.reader.phase ≡ Phase.Refused v
+  Keeps (leaves f x) = (v : Fault) → f.given ≡ Err v → f.reader.phase ≡ Phase.Refused v
 
-  repeated : (u v : Fault) → Given.Refused u ≡ Given.Refused v → Phase.Refused u ≡ Phase.Refused v
+  repeated : (u v : Fault) → ◌≡◌ {A = Given} (Err u) (Err v) → Phase.Refused u ≡ Phase.Refused v
   repeated u v e = let q : u ≡ v = cc in ap Phase.Refused q
 
   refusing-keeps : (k : ℕ) (u : Fault) (x : List ℕ) → Keeps (leaves (refusing r k u) x)

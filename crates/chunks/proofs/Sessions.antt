@@ -20,7 +20,9 @@ use Rattle.chunks.specs.Reader.{Gives, handed, more, never, reading, Passable}
 use Rattle.chunks.specs.Shift.{unknown}
 use Rattle.chunks.specs.Session.{left, told as heard, call, session}
 use Rattle.chunks.specs.Whole.{longest_token, next_lexeme, Handed, token, last, Next, Hands, Complete, joined}
-use Rattle.chunks.specs.declared.delivery.Given.{Given}
+use Rattle.std.specs.declared.result.Result.TheVariants.{Ok, Err}
+use Rattle.std.specs.declared.option.Option.TheVariants.{Some, None}
+use Rattle.chunks.specs.Given.{Given}
 use Rattle.chunks.specs.declared.delivery.Phase.{Phase}
 use Rattle.chunks.specs.declared.delivery.Reader.{Reader}
 use Rattle.chunks.specs.declared.layout.Mode.{Mode}
@@ -105,9 +107,9 @@ Bytes p r w t d = part (r.from - (d.offset - t.start)) r.from w ≡ part t.start
 
 -- what it gives, of every text that goes on from p: the next token, and the reader stands behind it; or more is wanted, and it stands further on; or the refusal
 abbrev pub Gave : Bool → List ℕ → Cursor → Reader → List ℕ → Given → Type 0
-Gave ended p o r w (Given.Token t d) = ((z : List ℕ) → Follows ended z → Next (p ++ z) o t d) × (o.offset < d.offset) × Driven ended p d r w × Bytes p r w t d
-Gave ended p o r w Given.More = (ended ≡ false) × Driven ended p o r w × Unsure p o r
-Gave ended p o r w (Given.Refused v) = (z : List ℕ) → Follows ended z → next_lexeme (p ++ z) o.offset ≡ refused v
+Gave ended p o r w (Ok (Some t)) = ((z : List ℕ) → Follows ended z → Next (p ++ z) o t.token t.next) × (o.offset < t.next.offset) × Driven ended p t.next r w × Bytes p r w t.token t.next
+Gave ended p o r w (Ok None) = (ended ≡ false) × Driven ended p o r w × Unsure p o r
+Gave ended p o r w (Err v) = (z : List ℕ) → Follows ended z → next_lexeme (p ++ z) o.offset ≡ refused v
 
 -- k bytes are taken, and with them p is delivered
 abbrev pub Stepped : Bool → List ℕ → Cursor → ℕ → Leaves → Type 0
@@ -352,9 +354,9 @@ module _ (P : Cursor → Handed → Type 0) (ended : Bool) (s p z : List ℕ) (e
     (last-case : (v : Fault) → next_lexeme s o.offset ≡ refused v → P o (last v)) where
   by_given : (j : ℕ) → j ≡ k → (r : Reader) (w : List ℕ) (g : Given) → Gave ended p o r w g → P o (heard (behind j r w) (on j r w) g)
   unfolding heard
-  by_given j q r w (Given.Token t d) a = token-case j t d r w q (subst (λ (x : List ℕ). Next x o t d) (sym e) (a.0 z f)) a.1 a.2
-  by_given j q r w Given.More a = more-case j r w q a.0 a.1
-  by_given j q r w (Given.Refused v) a = last-case v (ap (λ (x : List ℕ). next_lexeme x o.offset) e ∙ a z f)
+  by_given j q r w (Ok (Some t)) a = token-case j t.token t.next r w q (subst (λ (x : List ℕ). Next x o t.token t.next) (sym e) (a.0 z f)) a.1 a.2
+  by_given j q r w (Ok None) a = more-case j r w q a.0 a.1
+  by_given j q r w (Err v) a = last-case v (ap (λ (x : List ℕ). next_lexeme x o.offset) e ∙ a z f)
 
   by_call : (l : Leaves) → Stepped ended p o k l → P o (call behind on l)
   unfolding call

@@ -15,18 +15,19 @@ use Rattle.lexer.specs.declared.refusal.Fault.{Fault}
 use Rattle.lexer.specs.declared.refusal.Refusal.TheVariants.{EndOfText, ForeignByte}
 use Rattle.lexer.specs.declared.cursor.Cursor.{Cursor}
 use Rattle.chunks.specs.Hand.{to_next}
-use Rattle.chunks.specs.Layouts.{opened, slashed, starred, wait_of, turn, ahead}
+use Rattle.chunks.specs.Layouts.{Turned, on, wait, refused as stop, opened, slashed, starred, wait_of, turn, ahead}
 use Rattle.chunks.specs.Reader.{Passed, stopped, carried, pass, moved_by, judged, given, reading}
 use Rattle.chunks.specs.Shift.{shift_fault, shift_token}
 use Rattle.chunks.specs.Verdict.{Verdict, settled, too_long, waiting, verdict}
 use Rattle.chunks.specs.declared.hand.Next.{Next}
+use Rattle.chunks.specs.Given.{read_to}
+use Rattle.std.specs.declared.result.Result.{Result}
 use Rattle.chunks.specs.declared.layout.Mode.{Mode}
 use Rattle.chunks.specs.declared.layout.Mode.TheVariants.{Blank as blank, Line as line, Inside as inside}
-use Rattle.chunks.specs.declared.layout.Turn.{Turn}
-use Rattle.chunks.specs.declared.layout.Turn.TheVariants.{On as on, Start as start, Wait as wait, Refused as stop}
-use Rattle.chunks.specs.declared.pass.Why.{Why}
-use Rattle.chunks.specs.declared.pass.Why.TheVariants.{Starts as starts, Waits as waits, Stops as stops}
+use Rattle.chunks.specs.declared.layout.Why.{Why}
+use Rattle.chunks.specs.declared.layout.Why.TheVariants.{Starts as starts, Waits as waits, Stops as stops}
 use Rattle.chunks.proofs.Moves.{step-moved, moved_walk, moved-start}
+use Rattle.std.specs.declared.result.Result.TheVariants.{Ok, Err}
 
 -- ---- the same, further on by d, or by the cursor c
 abbrev pub shift_mode : ℕ → Mode → Mode
@@ -34,24 +35,22 @@ shift_mode d blank = blank
 shift_mode d line = line
 shift_mode d (inside o) = inside (d + o)
 
-abbrev shift_turn : ℕ → Turn → Turn
-shift_turn d (on m k) = on (shift_mode d m) k
-shift_turn d start = start
-shift_turn d (wait w) = wait (shift_fault d w)
-shift_turn d (stop w) = stop (shift_fault d w)
-
 abbrev shift_why : ℕ → Why → Why
 shift_why d starts = starts
 shift_why d (waits w) = waits (shift_fault d w)
 shift_why d (stops w) = stops (shift_fault d w)
 
+abbrev shift_turn : ℕ → Turned → Turned
+shift_turn d (Ok n) = on (shift_mode d n.mode) n.more
+shift_turn d (Err y) = Err (shift_why d y)
+
 abbrev shift_passed : Cursor → Passed → Passed
 shift_passed c (stopped m e u y) = stopped (shift_mode c.offset m) (moved_by c e) u (shift_why c.offset y)
 
-abbrev pub shift_next : Cursor → Next → Next
-shift_next c (Next.Token t d) = Next.Token (shift_token c.offset t) (moved_by c d)
-shift_next c (Next.More m d l) = Next.More (shift_mode c.offset m) (moved_by c d) (c.offset + l)
-shift_next c (Next.Refused w) = Next.Refused (shift_fault c.offset w)
+abbrev pub shift_next : Cursor → Result Next Fault → Result Next Fault
+shift_next c (Ok (Next.Token t)) = Ok (Next.Token (read_to (shift_token c.offset t.token) (moved_by c t.next)))
+shift_next c (Ok (Next.More m d l)) = Ok (Next.More (shift_mode c.offset m) (moved_by c d) (c.offset + l))
+shift_next c (Err w) = Err (shift_fault c.offset w)
 
 -- ---- one turn
 cond_of : {A B : Type 0} (f : A → B) (t : Bool) (a b : A) (a' b' : B) → a' ≡ f a → b' ≡ f b → cond t a' b' ≡ f (cond t a b)
@@ -115,26 +114,24 @@ pass_shifted c [] m k e = ap (λ (w : Fault). stopped (shift_mode c.offset m) (m
 pass_shifted c (x ∷ xs) m k e =
     ap by (ahead_shifted c.offset k m e.offset (x ∷ xs)) ∙ go (λ m' j. pass_shifted c xs m' j (step e x)) (ahead k m e.offset (x ∷ xs))
   where
-    by : Turn → Passed
+    by : Turned → Passed
     by t = carried t (λ m' j. pass m' j (step (moved_by c e) x) xs) (stopped (shift_mode c.offset m) (moved_by c e) (x ∷ xs))
 
-    go : ((m' : Mode) (j : ℕ) → pass (shift_mode c.offset m') j (moved_by c (step e x)) xs ≡ shift_passed c (pass m' j (step e x) xs)) → (t : Turn)
+    go : ((m' : Mode) (j : ℕ) → pass (shift_mode c.offset m') j (moved_by c (step e x)) xs ≡ shift_passed c (pass m' j (step e x) xs)) → (t : Turned)
         → by (shift_turn c.offset t) ≡ shift_passed c (carried t (λ m' j. pass m' j (step e x) xs) (stopped m e (x ∷ xs)))
-    go f (on m' j) = ap (λ (i : Cursor). pass (shift_mode c.offset m') j i xs) (step-moved c e x) ∙ f m' j
-    go f start = refl
-    go f (wait w) = refl
-    go f (stop w) = refl
+    go f (Ok n) = ap (λ (i : Cursor). pass (shift_mode c.offset n.mode) n.more i xs) (step-moved c e x) ∙ f n.mode n.more
+    go f (Err y) = refl
 
 -- ---- the next token
 judged_shifted : (c : Cursor) (m : Mode) (e : Cursor) (l : ℕ) (u : List ℕ) (v : Verdict) → to_next (judged (shift_mode c.offset m) (moved_by c e) (c.offset + l) u v) ≡ shift_next c (to_next (judged m e l u v))
 unfolding to_next judged
 judged_shifted c m e l u (settled (lexeme t n x)) =
     let o : c.offset + e.offset + t.start ≡ c.offset + (e.offset + t.start) = omega arith in
-    ap (λ (i : ℕ). Next.Token (record { kind = t.kind; value = t.value; start = i; layout = c.offset + l }) (walk (moved_by c e) (take n u))) o
-    ∙ ap (Next.Token (shift_token c.offset (token_since l (shift_token e.offset t)))) (moved_walk c e (take n u))
+    ap (λ (i : ℕ). Ok (Next.Token (read_to (record { kind = t.kind; value = t.value; start = i; layout = c.offset + l }) (walk (moved_by c e) (take n u))))) o
+    ∙ ap (λ (d : Cursor). Ok (Next.Token (read_to (shift_token c.offset (token_since l (shift_token e.offset t))) d))) (moved_walk c e (take n u))
 judged_shifted c m e l u (settled (refused w)) =
     let o : c.offset + e.offset + w.offset ≡ c.offset + (e.offset + w.offset) = omega arith in
-    ap (λ (i : ℕ). Next.Refused (fault w.refusal i)) o
+    ap (λ (i : ℕ). Err (fault w.refusal i)) o
 judged_shifted c m e l u too_long = refl
 judged_shifted c m e l u waiting = refl
 

@@ -1,9 +1,10 @@
 -- One feeding: the order of its tests, the bytes that it takes, and what the reader and the window are behind it. Definitions only.
-use Rattle.std.specs.Prelude.{ℕ, ◌+◌, ◌-◌, ◌<◌, ◌≤◌, min, Bool, true, false, cond, ◌&&◌, List, [], ◌∷◌, ◌++◌, leb, ltb, length, take, drop, set, ◌≡◌}
+use Rattle.std.specs.Prelude.{ℕ, ◌+◌, ◌-◌, ◌<◌, ◌≤◌, min, Bool, true, false, cond, ◌&&◌, List, [], ◌∷◌, ◌++◌, leb, ltb, length, take, drop, set, ◌≡◌, Some, None, Result, Ok, Err}
 use Rattle.std.proofs.Math.Seq.{paste}
 use Rattle.lexer.specs.Cursor.{longest, start_cursor, part, valid, Valid}
 use Rattle.lexer.specs.Token.{not_valid}
 use Rattle.lexer.specs.declared.refusal.Fault.{Fault}
+use Rattle.chunks.specs.Given.{token_given}
 use Rattle.chunks.specs.Reader.{Gives, handed, more, never, reading, Passable}
 use Rattle.chunks.specs.Shift.{unknown}
 use Rattle.chunks.specs.Whole.{longest_token}
@@ -12,8 +13,6 @@ use Rattle.chunks.specs.declared.hand.Next.{Next}
 use Rattle.chunks.specs.declared.layout.Mode.TheVariants.{Blank}
 use Rattle.chunks.specs.declared.delivery.Reader.{Reader}
 use Rattle.chunks.specs.declared.delivery.Phase.{Phase}
-use Rattle.chunks.specs.declared.delivery.Stage.{Stage}
-use Rattle.chunks.specs.declared.delivery.Given.{Given}
 use Rattle.chunks.specs.declared.delivery.Fed.{Fed}
 
 -- ---- a reader and its window
@@ -90,12 +89,12 @@ pub data Leaves : Type 0 where
 
 -- refused: the reader keeps it
 abbrev pub refusing : Reader → ℕ → Fault → Fed
-refusing r k w = record { reader = in_phase r (Phase.Refused w); taken = k; given = Given.Refused w }
+refusing r k w = record { reader = in_phase r (Phase.Refused w); taken = k; given = Err w }
 
 -- by what the bytes at hand, which end at `to`, give; layout begins anew behind a token
 unfoldable pub gave : Reader → ℕ → ℕ → Gives → Fed
-gave r to k (handed t c u) = record { reader = record { mode = Blank; cursor = c; layout = c.offset; from = to - length u; to = to; phase = r.phase }; taken = k; given = Given.Token t c }
-gave r to k (more m c l u) = record { reader = record { mode = m; cursor = c; layout = l; from = to - length u; to = to; phase = r.phase }; taken = k; given = Given.More }
+gave r to k (handed t c u) = record { reader = record { mode = Blank; cursor = c; layout = c.offset; from = to - length u; to = to; phase = r.phase }; taken = k; given = token_given t c }
+gave r to k (more m c l u) = record { reader = record { mode = m; cursor = c; layout = l; from = to - length u; to = to; phase = r.phase }; taken = k; given = Ok None }
 gave r to k (never w) = refusing r k w
 
 -- k bytes of the chunk are taken, and the bytes at hand are read
@@ -108,32 +107,32 @@ offered ended r w chunk = cond (admitted ended r (length chunk)) (took ended r w
 unfoldable pub by_phase : Phase → Reader → List ℕ → List ℕ → Leaves
 by_phase Phase.Open r w chunk = offered false r w chunk
 by_phase Phase.Ended r w chunk = offered true r w chunk
-by_phase (Phase.Refused v) r w chunk = leaves (record { reader = r; taken = 0; given = Given.Refused v }) w
+by_phase (Phase.Refused v) r w chunk = leaves (record { reader = r; taken = 0; given = Err v }) w
 
 abbrev pub feeding : Reader → List ℕ → List ℕ → Leaves
 feeding r w chunk = by_phase r.phase r w chunk
 
 -- ---- what the code tells, and what it asks
-unfoldable pub stage_of : Phase → Stage
-stage_of Phase.Open = Stage.Reads false
-stage_of Phase.Ended = Stage.Reads true
-stage_of (Phase.Refused w) = Stage.Refused w
+unfoldable pub stage_of : Phase → Result Bool Fault
+stage_of Phase.Open = Ok false
+stage_of Phase.Ended = Ok true
+stage_of (Phase.Refused w) = Err w
 
 -- without the bytes that are left: `sum` bytes were delivered, and the cursor tells how many of them are read
-unfoldable pub fed_by : Reader → ℕ → ℕ → ℕ → Next → Fed
-fed_by r to sum k (Next.Token t c) = record { reader = record { mode = Blank; cursor = c; layout = c.offset; from = to - (sum - c.offset); to = to; phase = r.phase }; taken = k; given = Given.Token t c }
-fed_by r to sum k (Next.More m c l) = record { reader = record { mode = m; cursor = c; layout = l; from = to - (sum - c.offset); to = to; phase = r.phase }; taken = k; given = Given.More }
-fed_by r to sum k (Next.Refused w) = refusing r k w
+unfoldable pub fed_by : Reader → ℕ → ℕ → ℕ → Result Next Fault → Fed
+fed_by r to sum k (Ok (Next.Token t)) = record { reader = record { mode = Blank; cursor = t.next; layout = t.next.offset; from = to - (sum - t.next.offset); to = to; phase = r.phase }; taken = k; given = Ok (Some t) }
+fed_by r to sum k (Ok (Next.More m c l)) = record { reader = record { mode = m; cursor = c; layout = l; from = to - (sum - c.offset); to = to; phase = r.phase }; taken = k; given = Ok None }
+fed_by r to sum k (Err w) = refusing r k w
 
 -- what is left at hand is a part of the window
 pub record Left (to sum : ℕ) (c : Cursor) : Type 0 where
   pub read : c.offset ≤ sum
   pub rest : sum - c.offset ≤ to
 
-abbrev pub Behind : ℕ → ℕ → Next → Type 0
-Behind to sum (Next.Token t c) = Left to sum c
-Behind to sum (Next.More m c l) = Left to sum c
-Behind to sum (Next.Refused w) = Unit {0}
+abbrev pub Behind : ℕ → ℕ → Result Next Fault → Type 0
+Behind to sum (Ok (Next.Token t)) = Left to sum t.next
+Behind to sum (Ok (Next.More m c l)) = Left to sum c
+Behind to sum (Err w) = Unit {0}
 
 -- a window, and the places that bytes are moved between
 pub record Moves (w : List ℕ) (from to place : ℕ) : Type 0 where

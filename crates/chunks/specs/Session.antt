@@ -1,8 +1,8 @@
 -- How a caller drives the reader, and what it is handed: 02, request 3. Definitions only.
-use Rattle.std.specs.Prelude.{ℕ, zero, suc, List, [], ◌∷◌, drop}
+use Rattle.std.specs.Prelude.{ℕ, zero, suc, List, [], ◌∷◌, drop, Some, None, Ok, Err}
 use Rattle.chunks.specs.Feed.{Leaves, leaves, finishing, feeding}
+use Rattle.chunks.specs.Given.{Given}
 use Rattle.chunks.specs.Whole.{Handed, token, last, stuck}
-use Rattle.chunks.specs.declared.delivery.Given.{Given}
 use Rattle.chunks.specs.declared.delivery.Reader.{Reader}
 
 -- the chunks that are left, with what is left of the first
@@ -12,9 +12,9 @@ left (y ∷ ys) xs = (y ∷ ys) ∷ xs
 
 -- by what a call gives: a token, and what comes behind it; what comes where more is wanted; the last
 unfoldable pub told : Handed → Handed → Given → Handed
-told behind on (Given.Token t c) = token t c behind
-told behind on Given.More = on
-told behind on (Given.Refused w) = last w
+told behind on (Ok (Some r)) = token r.token r.next behind
+told behind on (Ok None) = on
+told behind on (Err w) = last w
 
 -- a call, and what comes of the reader and the window that it leaves, and of the count of bytes that it takes
 unfoldable pub call : (ℕ → Reader → List ℕ → Handed) → (ℕ → Reader → List ℕ → Handed) → Leaves → Handed

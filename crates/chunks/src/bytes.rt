@@ -9,14 +9,7 @@ use lexer::Cursor;
 pub(crate) fn may_return(b: u8) -> bool
     ensures { result ≡ put_back b }
 {
-    match b {
-        b'.' => true,
-        b'e' => true,
-        b'E' => true,
-        b'+' => true,
-        b'-' => true,
-        _ => false,
-    }
+    matches!(b, b'.' | b'e' | b'E' | b'+' | b'-')
 }
 
 // The cursor further on by one that began at the start.
@@ -24,16 +17,13 @@ pub(crate) fn moved_by(c: Cursor, d: Cursor) -> Cursor
     requires { Sums c d }
     ensures { result ≡ moved_by c d }
 {
-    if d.line == 0 {
-        return Cursor {
-            offset: c.offset + d.offset,
-            line: c.line + d.line,
-            column: c.column + d.column,
-        };
-    }
     Cursor {
         offset: c.offset + d.offset,
         line: c.line + d.line,
-        column: d.column,
+        column: if d.line == 0 {
+            c.column + d.column
+        } else {
+            d.column
+        },
     }
 }

@@ -6,13 +6,16 @@ ghost use Rattle.chunks.specs.Reader.{reading};
 
 use crate::hand::{Next, read_hand};
 use crate::layout::Mode;
+use crate::shown::Shown;
+use crate::verdict::Given;
 use crate::window::{WINDOW, bytes_taken, hand_place, take_in};
-use lexer::{Cursor, Fault, Refusal, Token, is_valid};
+use lexer::{Cursor, Fault, Refusal, is_valid};
 
 // 01: a text has at most so many bytes.
 const LONGEST: usize = 65535;
 
-// The text goes on; the sender has said that it has ended; refused, which each further call repeats.
+// The text goes on; the sender has said that it has ended; refused, which each further call repeats. A state with three names, and no call's answer: `stage_of`
+// makes a `Result` of it.
 #[derive(Clone, Copy)]
 pub enum Phase {
     Open,
@@ -30,14 +33,6 @@ pub struct Reader {
     pub from: usize,
     pub to: usize,
     pub phase: Phase,
-}
-
-// What a call gives: a token, whose span ends where `next` stands; nothing yet; a refusal.
-#[derive(Clone, Copy)]
-pub enum Given {
-    Token { token: Token, next: Cursor },
-    More,
-    Refused(Fault),
 }
 
 // The reader for the next call, how many bytes of the chunk were taken, and what they gave.
@@ -69,27 +64,17 @@ pub fn start() -> Reader
 fn in_phase(reader: Reader, phase: Phase) -> Reader
     ensures { result ≡ in_phase reader phase }
 {
-    let mode = reader.mode;
-    let cursor = reader.cursor;
-    Reader {
-        mode,
-        cursor,
-        layout: reader.layout,
-        from: reader.from,
-        to: reader.to,
-        phase,
-    }
+    Reader { phase, ..reader }
 }
 
 // The sender says that the text has ended. What is at hand is handed out by `feed` with empty chunks.
+#[tactic(auto, unfolding(crate::specs::Feed::ended_phase))]
 pub fn finish(reader: Reader) -> Reader
     ensures { result ≡ finishing reader }
 {
-    let phase = reader.phase;
-    match phase {
+    match reader.phase {
         Phase::Open => in_phase(reader, Phase::Ended),
-        Phase::Ended => reader,
-        Phase::Refused(_) => reader,
+        Phase::Ended | Phase::Refused(_) => reader,
     }
 }
 
@@ -98,19 +83,13 @@ fn is_sound(reader: Reader) -> bool
     ensures { result ≡ sound reader }
 {
     let cursor = reader.cursor;
-    if reader.to < reader.from {
-        return false;
-    }
-    if WINDOW <= reader.to {
-        return false;
-    }
     if LONGEST < cursor.offset {
         return false;
     }
-    if cursor.offset < reader.layout {
-        return false;
-    }
-    is_valid(cursor.offset + (reader.to - reader.from), cursor)
+    reader.from <= reader.to
+        && reader.to < WINDOW
+        && reader.layout <= cursor.offset
+        && is_valid(cursor.offset + (reader.to - reader.from), cursor)
 }
 
 // Whether a chunk of `n` bytes may come: none behind the end, and no more than a text has.
@@ -131,57 +110,51 @@ fn is_admitted(reader: Reader, n: usize, ended: bool) -> bool
 fn refuse(reader: Reader, taken: usize, fault: Fault) -> Fed
     ensures { result ≡ refusing reader taken fault }
 {
-    let phase = Phase::Refused(fault);
-    let refused = in_phase(reader, phase);
     Fed {
-        reader: refused,
+        reader: in_phase(reader, Phase::Refused(fault)),
         taken,
-        given: Given::Refused(fault),
+        given: Err(fault),
     }
 }
 
 // The answer, by what the bytes at hand give. They end at `to` of the window, and at `sum` of the text.
-fn fed_by(reader: Reader, to: usize, sum: usize, taken: usize, next: Next) -> Fed
+#[tactic(auto, unfolding(crate::specs::Feed::fed_by))]
+fn fed_by(reader: Reader, to: usize, sum: usize, taken: usize, next: Result<Next, Fault>) -> Fed
     requires { Behind to sum next }
     ensures { result ≡ fed_by reader to sum taken next }
 {
-    let phase = reader.phase;
     match next {
-        Next::Token {
-            token,
-            next: behind,
-        } => Fed {
+        Ok(Next::Token(read)) => Fed {
             reader: Reader {
                 mode: Mode::Blank,
-                cursor: behind,
-                layout: behind.offset,
-                from: to - (sum - behind.offset),
+                cursor: read.next,
+                layout: read.next.offset,
+                from: to - (sum - read.next.offset),
                 to,
-                phase,
+                ..reader
             },
             taken,
-            given: Given::Token {
-                token,
-                next: behind,
-            },
+            given: Ok(Some(read)),
         },
-        Next::More {
-            mode,
-            cursor,
-            layout,
-        } => Fed {
+        Ok(
+            Next::More {
+                mode,
+                cursor,
+                layout,
+            },
+        ) => Fed {
             reader: Reader {
                 mode,
                 cursor,
                 layout,
                 from: to - (sum - cursor.offset),
                 to,
-                phase,
+                ..reader
             },
             taken,
-            given: Given::More,
+            given: Ok(None),
         },
-        Next::Refused(fault) => refuse(reader, taken, fault),
+        Err(fault) => refuse(reader, taken, fault),
     }
 }
 
@@ -197,16 +170,18 @@ fn read_window(
     requires { Windowed window.now reader place to }
     ensures { result ≡ gave reader to taken (reading ended reader.mode reader.cursor reader.layout (part place to window.now)) }
 {
-    let mode = reader.mode;
-    let cursor = reader.cursor;
     let behind = to + 1;
-    let sum = cursor.offset + (to - place);
+    let sum = reader.cursor.offset + (to - place);
+    let shown = Shown {
+        bytes: &window[place..behind],
+        ended,
+    };
     fed_by(
         reader,
         to,
         sum,
         taken,
-        read_hand(&window[place..behind], mode, cursor, reader.layout, ended),
+        read_hand(shown, reader.mode, reader.cursor, reader.layout),
     )
 }
 
@@ -223,6 +198,7 @@ fn take_chunk(reader: Reader, window: &mut [u8], chunk: &[u8], ended: bool) -> F
     read_window(reader, window, place, place + hand + taken, taken, ended)
 }
 
+// `ended` goes beside the reader: it is what the phase says where it is no refusal, and a reader asked again would have that third way to answer.
 fn offer(reader: Reader, window: &mut [u8; WINDOW], chunk: &[u8], ended: bool) -> Fed
     ensures { leaves result window.new ≡ offered ended reader window.old chunk.now }
 {
@@ -239,35 +215,30 @@ fn offer(reader: Reader, window: &mut [u8; WINDOW], chunk: &[u8], ended: bool) -
     )
 }
 
-// Whether bytes can be read, behind the end or not.
-#[derive(Clone, Copy)]
-enum Stage {
-    Reads(bool),
-    Refused(Fault),
-}
-
-fn stage_of(phase: Phase) -> Stage
+// Whether the bytes that are read end there; the refusal, where none are read.
+#[tactic(auto, unfolding(crate::specs::Feed::stage_of))]
+fn stage_of(phase: Phase) -> Result<bool, Fault>
     ensures { result ≡ stage_of phase }
 {
     match phase {
-        Phase::Open => Stage::Reads(false),
-        Phase::Ended => Stage::Reads(true),
-        Phase::Refused(fault) => Stage::Refused(fault),
+        Phase::Open => Ok(false),
+        Phase::Ended => Ok(true),
+        Phase::Refused(fault) => Err(fault),
     }
 }
 
-// Takes bytes of a chunk, says how many, and hands out at most one token. The caller goes on with the rest of the chunk until the answer is `More` and
+// Takes bytes of a chunk, says how many, and hands out at most one token. The caller goes on with the rest of the chunk until none is handed out and
 // nothing is left of it; behind `finish`, with empty chunks until one is refused.
+#[tactic(auto, unfolding(crate::specs::Feed::by_phase, crate::specs::Feed::stage_of))]
 pub fn feed(reader: Reader, window: &mut [u8; WINDOW], chunk: &[u8]) -> Fed
     ensures { leaves result window.new ≡ feeding reader window.old chunk.now }
 {
-    let phase = reader.phase;
-    match stage_of(phase) {
-        Stage::Reads(ended) => offer(reader, window, chunk, ended),
-        Stage::Refused(fault) => Fed {
+    match stage_of(reader.phase) {
+        Ok(ended) => offer(reader, window, chunk, ended),
+        Err(fault) => Fed {
             reader,
             taken: 0,
-            given: Given::Refused(fault),
+            given: Err(fault),
         },
     }
 }

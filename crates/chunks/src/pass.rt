@@ -4,18 +4,10 @@ ghost use Rattle.lexer.specs.Cursor.{along};
 ghost use Rattle.chunks.specs.Layouts.{plain_end};
 ghost use Rattle.chunks.specs.Reader.{pass, placed, Passable};
 
-use crate::layout::{Mode, Turn, at_end, turn_ahead};
-use lexer::{Cursor, Fault, skip_char, stretch_end};
+use crate::layout::{Mode, Why, at_end, turn_ahead};
+use lexer::{Cursor, skip_char, stretch_end};
 
-// Why it stops: a token starts; more must be known, and where the text ends it is refused so; refused.
-#[derive(Clone, Copy)]
-pub enum Why {
-    Starts,
-    Waits(Fault),
-    Stops(Fault),
-}
-
-// Where it stops: the bytes up to the cursor are passed.
+// Where it stops, and why: the bytes up to the cursor are passed. The place is wanted whatever stops it, so no reason is an `Err` here.
 #[derive(Clone, Copy)]
 pub struct Place {
     pub mode: Mode,
@@ -27,6 +19,7 @@ pub struct Place {
 const NONE: u8 = 0;
 
 // Where the bytes from `at` on end that leave the mode as it is, none of them a newline; `left` of a turn are still to be passed.
+#[tactic(auto, unfolding(crate::specs::Layouts::plain_end))]
 fn plain_end(hand: &[u8], at: usize, left: usize, mode: Mode) -> usize
     ensures { result ≡ plain_end left mode hand.now at }
 {
@@ -40,7 +33,7 @@ fn plain_end(hand: &[u8], at: usize, left: usize, mode: Mode) -> usize
     }
 }
 
-// Past `n` such bytes.
+// Past `n` such bytes. The lexer's own `skip_along` is not handed out: it asks for something, and public calls ask for nothing.
 fn past_plain(c: Cursor, n: usize) -> Cursor
     requires { Passable n c }
     ensures { result ≡ along c n }
@@ -61,36 +54,24 @@ pub(crate) fn pass_layout(hand: &[u8], mode: Mode, cursor: Cursor) -> Place
     let mut left = 0;
     let mut m = mode;
     let mut c = cursor;
+    // `at` goes on by a turn and by the run behind it, and where it stops is the answer: no `for` counts so.
     while at < hand.len() {
-        match turn_ahead(hand, at, left, m, c.offset) {
-            Turn::On { mode: next, more } => {
+        match turn_ahead(&hand[at..], left, m, c.offset) {
+            Ok(turn) => {
+                let next = turn.mode;
                 let passed = skip_char(c, hand[at]);
                 let start = at + 1;
-                let end = plain_end(hand, start, more, next);
+                let end = plain_end(hand, start, turn.more, next);
                 c = past_plain(passed, end - start);
                 at = end;
-                left = more;
+                left = turn.more;
                 m = next;
             }
-            Turn::Start => {
+            Err(why) => {
                 return Place {
                     mode: m,
                     cursor: c,
-                    why: Why::Starts,
-                };
-            }
-            Turn::Wait(fault) => {
-                return Place {
-                    mode: m,
-                    cursor: c,
-                    why: Why::Waits(fault),
-                };
-            }
-            Turn::Refused(fault) => {
-                return Place {
-                    mode: m,
-                    cursor: c,
-                    why: Why::Stops(fault),
+                    why,
                 };
             }
         }

@@ -4,7 +4,7 @@ ghost use Rattle.std.proofs.Math.Seq.{paste};
 ghost use Rattle.chunks.specs.Shift.{unknown};
 ghost use Rattle.chunks.specs.Feed.{takes, place_of, filled_with, Moves, Fills, TakesIn};
 
-use crate::verdict::{MOST_AT_HAND, lesser};
+use crate::verdict::MOST_AT_HAND;
 
 // 1,027 bytes at hand, as many again, so that each is moved once at most, and the unknown byte.
 pub const WINDOW: usize = 2057;
@@ -23,10 +23,10 @@ pub(crate) fn bytes_taken(hand: usize, n: usize) -> usize
     ensures { result ≡ takes hand n }
 {
     if hand < FULL_HAND {
-        return lesser(n, FULL_HAND - hand);
+        return n.min(FULL_HAND - hand);
     }
     if hand < MOST_AT_HAND {
-        return lesser(n, MOST_AT_HAND - hand);
+        return n.min(MOST_AT_HAND - hand);
     }
     0
 }
@@ -46,12 +46,7 @@ fn move_hand(window: &mut [u8], from: usize, to: usize, place: usize)
     if place == from {
         return;
     }
-    let n = to - from;
-    let mut i = 0;
-    while i < n {
-        window[place + i] = window[from + i];
-        i += 1;
-    }
+    window.copy_within(from..to, place);
 }
 
 // Puts the first `n` bytes of the chunk at `at`, and the unknown byte behind them.
@@ -59,12 +54,9 @@ fn fill(window: &mut [u8], at: usize, chunk: &[u8], n: usize)
     requires { Fills window.old (length chunk.now) at n }
     ensures { window.new ≡ set (paste window.old at chunk.now n) (at + n) unknown }
 {
-    let mut i = 0;
-    while i < n {
-        window[at + i] = chunk[i];
-        i += 1;
-    }
-    window[at + n] = UNKNOWN;
+    let end = at + n;
+    window[at..end].copy_from_slice(&chunk[0..n]);
+    window[end] = UNKNOWN;
 }
 
 // Moves the bytes at hand to `place`, and puts the first `taken` bytes of the chunk behind them, with the unknown byte behind those.

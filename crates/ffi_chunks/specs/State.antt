@@ -1,18 +1,18 @@
 -- The C interface of the reader that is fed chunks: a reader as the twelve numbers of `struct thrinvage_reader`, what these numbers mean, and what a
 -- feeding leaves. Definitions only.
-use Rattle.std.specs.Prelude.{ℕ, Bool, true, cond, ◌&&◌, List, [], ◌∷◌, eqb, ltb, get_or}
+use Rattle.std.specs.Prelude.{ℕ, Bool, true, cond, ◌&&◌, List, [], ◌∷◌, eqb, ltb, get_or, Some, None, Ok, Err}
 use Rattle.lexer.specs.Cursor.{start_cursor}
 use Rattle.lexer.specs.Refusal.{number_of, fault}
 use Rattle.lexer.specs.declared.refusal.Refusal.{Refusal}
 use Rattle.lexer.specs.declared.refusal.Refusal.TheVariants.{EndOfText, UnclosedComment, NoToken, BadQuoted, ForeignByte, SetAside, OutOfLimit, NotValid, NoRoom, TooManyTokens, NoReading, NoText, TooLong, NoPack, TokenTooLong, UnknownVersion}
-use Rattle.lexer.specs.declared.token.Answer.{Answer}
 use Rattle.chunks.specs.Feed.{Leaves, leaves}
 use Rattle.chunks.specs.declared.layout.Mode.{Mode}
 use Rattle.chunks.specs.declared.layout.Mode.TheVariants.{Blank, Line, Inside}
 use Rattle.chunks.specs.declared.delivery.Reader.{Reader}
 use Rattle.chunks.specs.declared.delivery.Phase.{Phase}
-use Rattle.chunks.specs.declared.delivery.Given.{Given}
+use Rattle.chunks.specs.Given.{Given}
 use Rattle.fields.specs.Fields.{Outcome, leaves as returned, refused_fields, answer_leaves, cursor_at}
+use Rattle.std.specs.declared.result.Result.TheVariants.{Ok}
 
 -- ---- a reader's numbers
 
@@ -121,9 +121,9 @@ more_number = 256
 
 -- the number that is returned, and the token's fields
 unfoldable pub given_leaves : Given → List ℕ → Outcome
-given_leaves (Given.Token t c) d = answer_leaves (Answer.Read t c) d
-given_leaves Given.More d = returned more_number d
-given_leaves (Given.Refused w) d = refused_fields w d
+given_leaves (Ok (Some r)) d = answer_leaves (Ok r) d
+given_leaves (Ok None) d = returned more_number d
+given_leaves (Err w) d = refused_fields w d
 
 -- what is returned with the token's fields, the reader's numbers, and the window
 pub data Feeding : Type 0 where

@@ -11,27 +11,28 @@ ghost use Rattle.ffi_chunks.specs.State.{fields_of, reader_of, given_leaves, lef
 
 use chunks::{Given, WINDOW, feed, finish, start};
 use fields::put_answer;
-use lexer::{Answer, Cursor};
+use lexer::{Cursor, Refused};
 use state::{put_reader, reader_of};
 
 // What is returned where nothing is certain yet. It is the number of no refusal: those are below 256.
 const MORE: u32 = 256;
 
+#[tactic(auto, unfolding(crate::specs::State::given_leaves, fields::specs::Fields::answer_leaves))]
 fn put_given(given: Given, token: &mut [u64; 9]) -> u32
     ensures { leaves result token.new ≡ given_leaves given token.old }
 {
     match given {
-        Given::Token { token: read, next } => put_answer(Answer::Read { token: read, next }, token),
-        Given::More => MORE,
-        Given::Refused(fault) => put_answer(
-            Answer::Refused {
+        Ok(Some(read)) => put_answer(Ok(read), token),
+        Ok(None) => MORE,
+        Err(fault) => put_answer(
+            Err(Refused {
                 fault,
                 cursor: Cursor {
                     offset: 0,
                     line: 0,
                     column: 0,
                 },
-            },
+            }),
             token,
         ),
     }
@@ -62,8 +63,6 @@ pub extern "C" fn thrinvage_feed(
     ensures { left (leaves result token.new) reader.new window.new ≡ feeding_leaves (feeding (reader_of reader.old) window.old chunk.now) token.old }
 {
     let fed = feed(reader_of(reader), window, chunk);
-    let behind = fed.reader;
-    let given = fed.given;
-    put_reader(behind, fed.taken, reader);
-    put_given(given, token)
+    put_reader(fed.reader, fed.taken, reader);
+    put_given(fed.given, token)
 }

@@ -1,11 +1,12 @@
 // A reader as the numbers of `struct thrinvage_reader` in `include/thrinvage.h`, and back.
-ghost use Rattle.std.specs.Prelude.{◌≡◌};
+ghost use Rattle.std.specs.Prelude.{◌≡◌, cond, Some, None};
 ghost use Rattle.ffi_chunks.specs.State.{mode_number, slash_of, phase_number, refusal_of_phase, refused_at, fields_of, known_mode, known_refusal, known_phase, mode_of, refusal_of, phase_of, known, meant, made_up, reader_of};
 
-use chunks::{Mode, Phase, Reader};
+use chunks::{Mode, Phase, Reader, start};
 use fields::fault_number;
 use lexer::{Cursor, Fault, Refusal};
 
+// Where each number stands in the C interface's array.
 const MODE: usize = 0;
 
 const SLASH: usize = 1;
@@ -28,53 +29,25 @@ const REFUSAL: usize = 9;
 
 const REFUSED_AT: usize = 10;
 
-fn mode_number(mode: Mode) -> u64
-    ensures { result ≡ mode_number mode }
+// Its number, and where the slash is; 0 where there is none, as the C interface says.
+fn mode_numbers(mode: Mode) -> (u64, u64)
+    ensures { result ≡ (mode_number mode, slash_of mode) }
 {
     match mode {
-        Mode::Blank => 0,
-        Mode::Line => 1,
-        Mode::Inside(_) => 2,
+        Mode::Blank => (0, 0),
+        Mode::Line => (1, 0),
+        Mode::Inside(slash) => (2, slash as u64),
     }
 }
 
-fn slash_of(mode: Mode) -> u64
-    ensures { result ≡ slash_of mode }
-{
-    match mode {
-        Mode::Blank => 0,
-        Mode::Line => 0,
-        Mode::Inside(slash) => slash as u64,
-    }
-}
-
-fn phase_number(phase: Phase) -> u64
-    ensures { result ≡ phase_number phase }
+// Its number, that of its refusal, and where that is; 0 where there is none, as the C interface says.
+fn phase_numbers(phase: Phase) -> (u64, u64, u64)
+    ensures { result ≡ (phase_number phase, refusal_of_phase phase, refused_at phase) }
 {
     match phase {
-        Phase::Open => 0,
-        Phase::Ended => 1,
-        Phase::Refused(_) => 2,
-    }
-}
-
-fn refusal_of_phase(phase: Phase) -> u64
-    ensures { result ≡ refusal_of_phase phase }
-{
-    match phase {
-        Phase::Open => 0,
-        Phase::Ended => 0,
-        Phase::Refused(fault) => fault_number(fault) as u64,
-    }
-}
-
-fn refused_at(phase: Phase) -> u64
-    ensures { result ≡ refused_at phase }
-{
-    match phase {
-        Phase::Open => 0,
-        Phase::Ended => 0,
-        Phase::Refused(fault) => fault.offset as u64,
+        Phase::Open => (0, 0, 0),
+        Phase::Ended => (1, 0, 0),
+        Phase::Refused(fault) => (2, fault_number(fault) as u64, fault.offset as u64),
     }
 }
 
@@ -82,129 +55,88 @@ fn refused_at(phase: Phase) -> u64
 pub(crate) fn put_reader(reader: Reader, taken: usize, fields: &mut [u64; 12])
     ensures { fields.new ≡ fields_of reader taken }
 {
-    let mode = reader.mode;
     let cursor = reader.cursor;
-    let phase = reader.phase;
+    let (mode, slash) = mode_numbers(reader.mode);
+    let (phase, refusal, refused_at) = phase_numbers(reader.phase);
     *fields = [
-        mode_number(mode),
-        slash_of(mode),
+        mode,
+        slash,
         cursor.offset as u64,
         cursor.line as u64,
         cursor.column as u64,
         reader.layout as u64,
         reader.from as u64,
         reader.to as u64,
-        phase_number(phase),
-        refusal_of_phase(phase),
-        refused_at(phase),
+        phase,
+        refusal,
+        refused_at,
         taken as u64,
     ];
 }
 
-fn is_mode(mode: u64, slash: u64) -> bool
-    ensures { result ≡ known_mode mode slash }
+// What numbers mean, where a reader can have them. The types are of other crates, and so are the arrays: no `TryFrom` of theirs can stand here.
+#[tactic(auto, unfolding(crate::specs::State::known_mode, crate::specs::State::mode_of))]
+fn mode_of(mode: u64, slash: u64) -> Option<Mode>
+    ensures { result ≡ cond (known_mode mode slash) (Some (mode_of mode slash)) None }
 {
-    if mode == 2 {
-        return true;
-    }
-    if mode < 2 {
-        return slash == 0;
-    }
-    false
-}
-
-fn is_refusal(number: u64) -> bool
-    ensures { result ≡ known_refusal number }
-{
-    if number == 18 {
-        return true;
-    }
-    if 0 < number {
-        return number < 16;
-    }
-    false
-}
-
-fn is_phase(phase: u64, refusal: u64, at: u64) -> bool
-    ensures { result ≡ known_phase phase refusal at }
-{
-    if phase == 2 {
-        return is_refusal(refusal);
-    }
-    if phase < 2 {
-        if refusal == 0 {
-            return at == 0;
-        }
-        return false;
-    }
-    false
-}
-
-fn mode_of(mode: u64, slash: u64) -> Mode
-    ensures { result ≡ mode_of mode slash }
-{
-    match mode {
-        0 => Mode::Blank,
-        1 => Mode::Line,
-        _ => Mode::Inside(slash as usize),
+    match (mode, slash) {
+        (0, 0) => Some(Mode::Blank),
+        (1, 0) => Some(Mode::Line),
+        (2, _) => Some(Mode::Inside(slash as usize)),
+        _ => None,
     }
 }
 
-fn refusal_of(number: u64) -> Refusal
-    ensures { result ≡ refusal_of number }
+#[tactic(auto, unfolding(crate::specs::State::known_refusal, crate::specs::State::refusal_of))]
+fn refusal_of(number: u64) -> Option<Refusal>
+    ensures { result ≡ cond (known_refusal number) (Some (refusal_of number)) None }
 {
     match number {
-        1 => Refusal::EndOfText,
-        2 => Refusal::UnclosedComment,
-        3 => Refusal::NoToken,
-        4 => Refusal::BadQuoted,
-        5 => Refusal::ForeignByte,
-        6 => Refusal::SetAside,
-        7 => Refusal::OutOfLimit,
-        8 => Refusal::NotValid,
-        9 => Refusal::NoRoom,
-        10 => Refusal::TooManyTokens,
-        11 => Refusal::NoReading,
-        12 => Refusal::NoText,
-        13 => Refusal::TooLong,
-        14 => Refusal::NoPack,
-        15 => Refusal::TokenTooLong,
-        _ => Refusal::UnknownVersion,
+        1 => Some(Refusal::EndOfText),
+        2 => Some(Refusal::UnclosedComment),
+        3 => Some(Refusal::NoToken),
+        4 => Some(Refusal::BadQuoted),
+        5 => Some(Refusal::ForeignByte),
+        6 => Some(Refusal::SetAside),
+        7 => Some(Refusal::OutOfLimit),
+        8 => Some(Refusal::NotValid),
+        9 => Some(Refusal::NoRoom),
+        10 => Some(Refusal::TooManyTokens),
+        11 => Some(Refusal::NoReading),
+        12 => Some(Refusal::NoText),
+        13 => Some(Refusal::TooLong),
+        14 => Some(Refusal::NoPack),
+        15 => Some(Refusal::TokenTooLong),
+        18 => Some(Refusal::UnknownVersion),
+        _ => None,
     }
 }
 
-fn phase_of(phase: u64, refusal: u64, at: u64) -> Phase
-    ensures { result ≡ phase_of phase refusal at }
+#[tactic(auto, unfolding(crate::specs::State::known_phase, crate::specs::State::phase_of))]
+fn phase_of(phase: u64, refusal: u64, at: u64) -> Option<Phase>
+    ensures { result ≡ cond (known_phase phase refusal at) (Some (phase_of phase refusal at)) None }
 {
-    match phase {
-        0 => Phase::Open,
-        1 => Phase::Ended,
-        _ => {
-            let named = refusal_of(refusal);
-            Phase::Refused(Fault {
-                refusal: named,
+    match (phase, refusal, at) {
+        (0, 0, 0) => Some(Phase::Open),
+        (1, 0, 0) => Some(Phase::Ended),
+        (2, _, _) => {
+            let refusal = refusal_of(refusal)?;
+            Some(Phase::Refused(Fault {
+                refusal,
                 offset: at as usize,
-            })
+            }))
         }
+        _ => None,
     }
 }
 
-// Whether a reader can have these numbers.
-fn is_known(fields: &[u64; 12]) -> bool
-    ensures { result ≡ known fields.now }
+#[tactic(auto, unfolding(crate::specs::State::known))]
+fn meant_by(fields: &[u64; 12]) -> Option<Reader>
+    ensures { result ≡ cond (known fields.now) (Some (meant fields.now)) None }
 {
-    if is_mode(fields[MODE], fields[SLASH]) {
-        return is_phase(fields[PHASE], fields[REFUSAL], fields[REFUSED_AT]);
-    }
-    false
-}
-
-fn meant_by(fields: &[u64; 12]) -> Reader
-    ensures { result ≡ meant fields.now }
-{
-    let mode = mode_of(fields[MODE], fields[SLASH]);
-    let phase = phase_of(fields[PHASE], fields[REFUSAL], fields[REFUSED_AT]);
-    Reader {
+    let mode = mode_of(fields[MODE], fields[SLASH])?;
+    let phase = phase_of(fields[PHASE], fields[REFUSAL], fields[REFUSED_AT])?;
+    Some(Reader {
         mode,
         cursor: Cursor {
             offset: fields[OFFSET] as usize,
@@ -215,32 +147,19 @@ fn meant_by(fields: &[u64; 12]) -> Reader
         from: fields[FROM] as usize,
         to: fields[TO] as usize,
         phase,
-    }
+    })
 }
 
 // A reader that is not sound: `feed` refuses it.
 fn made_up() -> Reader
     ensures { result ≡ made_up }
 {
-    Reader {
-        mode: Mode::Blank,
-        cursor: Cursor {
-            offset: 0,
-            line: 0,
-            column: 0,
-        },
-        layout: 0,
-        from: 1,
-        to: 0,
-        phase: Phase::Open,
-    }
+    Reader { from: 1, ..start() }
 }
 
+#[tactic(auto, unfolding(crate::specs::State::reader_of))]
 pub(crate) fn reader_of(fields: &[u64; 12]) -> Reader
     ensures { result ≡ reader_of fields.now }
 {
-    if is_known(fields) {
-        return meant_by(fields);
-    }
-    made_up()
+    meant_by(fields).unwrap_or(made_up())
 }

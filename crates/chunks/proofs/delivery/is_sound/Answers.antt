@@ -1,11 +1,11 @@
 -- `chunks::delivery::is_sound` meets its contract. Assumes nothing.
-use Prim.Native.Nat.{ℕ, ◌<◌, ◌≤◌}
-use mathlib.Core.Path.{◌≡◌, refl, ◌∙◌}
+use Prim.Native.Nat.{ℕ, ◌<◌}
+use mathlib.Core.Path.{◌≡◌, refl}
 use mathlib.Core.Bool.{Bool, true, false, ◌&&◌}
 use native.Mathlib.Omega.{arith}
 use borrow.Author.Rules.{rules}
-use borrow.Author.Tests.{leb-true, lt-leb, le-leb, lt-ltb, le-ltb}
-use lib.Dec.{leb}
+use borrow.Author.Tests.{leb-true, lt-leb}
+use lib.Dec.{leb, ltb}
 use Rattle.lexer.specs.Cursor.{longest, valid}
 use Rattle.lexer.specs.declared.cursor.Cursor.{Cursor}
 use Rattle.chunks.specs.Feed.{delivered, window_size, sound}
@@ -21,27 +21,16 @@ past_all n c h = go (leb n longest) refl
     go false e = refl
     go true e = let k = leb-true n longest e in cc (lt-leb c.offset n (omega arith))
 
-module _ (r : Reader) where
-  backwards : r.to < r.from → false ≡ sound r
-  backwards h = cc (lt-leb r.from r.to h)
+too_far : (r : Reader) → longest < r.cursor.offset → false ≡ sound r
+too_far r h = rw (past_all (delivered r) r.cursor h) (go (leb r.from r.to) (ltb r.to window_size) (leb r.layout r.cursor.offset))
+  where
+    go : (a b c : Bool) → false ≡ a && b && c && false
+    go true true true = refl
+    go true true false = refl
+    go true false c = refl
+    go false b c = refl
 
-  outside : r.from ≤ r.to → window_size ≤ r.to → false ≡ sound r
-  outside g h = cc (le-leb r.from r.to g, le-ltb r.to window_size h)
-
-  too_far : r.from ≤ r.to → r.to < window_size → longest < r.cursor.offset → false ≡ sound r
-  too_far g h k = last (leb r.layout r.cursor.offset) ∙ cc (le-leb r.from r.to g, lt-ltb r.to window_size h, past_all (delivered r) r.cursor k)
-    where
-      last : (t : Bool) → false ≡ t && false
-      last true = refl
-      last false = refl
-
-  late_layout : r.from ≤ r.to → r.to < window_size → r.cursor.offset < r.layout → false ≡ sound r
-  late_layout g h k = cc (le-leb r.from r.to g, lt-ltb r.to window_size h, lt-leb r.layout r.cursor.offset k)
-
-  tested : r.from ≤ r.to → r.to < window_size → r.layout ≤ r.cursor.offset → (t : Bool) → t ≡ valid (delivered r) r.cursor → t ≡ sound r
-  tested g h k t e = cc (le-leb r.from r.to g, lt-ltb r.to window_size h, le-leb r.layout r.cursor.offset k)
-
-ruleset ways = (backwards, outside, too_far, late_layout, tested, rules)
+ruleset ways = (too_far, rules)
 
 pub returns-then-cursor-gt-LONGEST : goal.returns-then-cursor-gt-LONGEST
 returns-then-cursor-gt-LONGEST c = search ways

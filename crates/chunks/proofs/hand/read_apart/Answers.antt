@@ -1,9 +1,9 @@
 -- `chunks::hand::read_apart` meets its contract. Assumes nothing.
 use borrow.Author.Rules.{rules}
-use Rattle.chunks.proofs.Hands.{held-some, held-inside, held_passable, held_starts, held_starts_tells, held_waits_tells, held-stops_tells}
+use Rattle.chunks.proofs.Hands.{held_passable, held_starts, held_starts_tells, held_waits_tells, held-stops_tells}
 use Rattle.chunks.proofs.hand.read_apart.Goals as goal
 
-ruleset ways = (held-some, held-inside, held_passable, held_starts, held_starts_tells, held_waits_tells, held-stops_tells, rules)
+ruleset ways = (held_passable, held_starts, held_starts_tells, held_waits_tells, held-stops_tells, rules)
 
 pub returns-in-Waits : goal.returns-in-Waits
 returns-in-Waits c = search ways

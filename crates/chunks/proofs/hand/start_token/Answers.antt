@@ -1,9 +1,9 @@
 -- `chunks::hand::start_token` meets its contract. Assumes nothing.
 use borrow.Author.Rules.{rules}
-use Rattle.chunks.proofs.Hands.{start-inside, start_viewed, start_fits, start_tells}
+use Rattle.chunks.proofs.Hands.{start-inside, start_fits, start_tells}
 use Rattle.chunks.proofs.hand.start_token.Goals as goal
 
-ruleset ways = (start-inside, start_viewed, start_fits, start_tells, rules)
+ruleset ways = (start-inside, start_fits, start_tells, rules)
 
 pub returns : goal.returns
 returns c = search ways

@@ -1,20 +1,14 @@
 use borrow.Author.Rules.{rules}
-use Rattle.chunks.proofs.pass.pass_layout.Invariants.{able, begun, here, run-ahead, run_inside, run_able, run-on, run_less, starts, waits, refuses, ended}
+use Rattle.chunks.proofs.pass.pass_layout.Invariants.{able, begun, here, run-ahead, run_inside, run_able, run-on, run_less, stops, ended}
 use Rattle.chunks.proofs.pass.pass_layout.Goals as goal
 
-ruleset ways = (begun, here, able, run-ahead, run_inside, run_able, run-on, run_less, starts, waits, refuses, ended, rules)
+ruleset ways = (begun, here, able, run-ahead, run_inside, run_able, run-on, run_less, stops, ended, rules)
 
 pub loop-at-preserved : goal.loop-at-preserved
 loop-at-preserved c = search ways
 
-pub returns-in-Start : goal.returns-in-Start
-returns-in-Start c = search ways
-
-pub returns-in-Wait : goal.returns-in-Wait
-returns-in-Wait c = search ways
-
-pub returns-in-Refused : goal.returns-in-Refused
-returns-in-Refused c = search ways
+pub returns-in-Err : goal.returns-in-Err
+returns-in-Err c = search ways
 
 pub returns : goal.returns
 returns c = search ways

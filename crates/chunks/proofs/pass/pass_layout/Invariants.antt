@@ -5,7 +5,8 @@ use mathlib.Core.Bool.{true, false}
 use mathlib.Core.List.{List, ◌∷◌}
 use native.Mathlib.Omega.{arith}
 use borrow.Author.Tests.{ne_eqb}
-use lib.ListN.{length, drop, get_or}
+use lib.ListN.{length, take, drop, get_or, length-drop}
+use lib.Seq.{take_all}
 use Rattle.lexer.specs.Chars.{is, class_of, foreign_byte, space, newline, star}
 use Rattle.lexer.specs.Cursor.{longest, step, along, Valid, Movable}
 use Rattle.lexer.specs.Stretch.{in_stretch, stretch_end}
@@ -14,46 +15,31 @@ use Rattle.lexer.specs.declared.cursor.Cursor.{Cursor}
 use Rattle.lexer.proofs.Cursors.{step-valid}
 use Rattle.lexer.proofs.Steps.{drop_at, drop_end}
 use Rattle.lexer.proofs.Stretches.{stretch_carry, stretch_ahead, stretch_inside, in-stretch, stretch_known}
-use Rattle.chunks.specs.Layouts.{wait_of, turn, ahead, plain_end, Here}
-use Rattle.chunks.specs.Reader.{Passed, stopped, carried, pass, placed, Passable}
+use Rattle.chunks.specs.Layouts.{Turned, on, wait_of, turn, ahead, plain_end}
+use Rattle.chunks.specs.Reader.{stopped, carried, pass, placed, Passable}
 use Rattle.chunks.specs.declared.layout.Mode.{Mode}
 use Rattle.chunks.specs.declared.layout.Mode.TheVariants.{Blank, Line, Inside}
+use Rattle.chunks.specs.declared.layout.Why.{Why}
+use Rattle.chunks.specs.declared.layout.Why.TheVariants.{Waits}
 use Rattle.chunks.specs.declared.layout.Turn.{Turn}
-use Rattle.chunks.specs.declared.layout.Turn.TheVariants.{On, Start, Wait, Refused}
-use Rattle.chunks.specs.declared.pass.Why.{Why}
-use Rattle.chunks.specs.declared.pass.Why.TheVariants.{Starts, Waits, Stops}
+use Rattle.std.specs.declared.result.Result.TheVariants.{Ok, Err}
 use Rattle.chunks.proofs.pass.pass_layout.Given as goal
 
 -- one turn of the definition
 module _ (m : Mode) (left : ℕ) (c : Cursor) (s : List ℕ) (at : ℕ) (h : at < length s) where
-  pub passes : (m' : Mode) (j : ℕ) → ahead left m c.offset (drop at s) ≡ On m' j → pass m left c (drop at s) ≡ pass m' j (step c (get_or s at 0)) (drop (at + 1) s)
+  pub passes : (m' : Mode) (j : ℕ) → ahead left m c.offset (drop at s) ≡ on m' j → pass m left c (drop at s) ≡ pass m' j (step c (get_or s at 0)) (drop (at + 1) s)
   unfolding pass carried
   passes m' j e =
       let d = drop_at s at h in
-      let f : ahead left m c.offset (get_or s at 0 ∷ drop (at + 1) s) ≡ On m' j = ap (ahead left m c.offset) (sym d) ∙ e in
+      let f : ahead left m c.offset (get_or s at 0 ∷ drop (at + 1) s) ≡ on m' j = ap (ahead left m c.offset) (sym d) ∙ e in
       rw (d, f)
 
-  pub stands : (t : Turn) (y : Why) → ahead left m c.offset (drop at s) ≡ t → ((r : List ℕ) (next : Mode → ℕ → Passed) → carried t next (stopped m c r) ≡ stopped m c r y) → pass m left c (drop at s) ≡ stopped m c (drop at s) y
-  unfolding pass
-  stands t y e q =
+  pub stands : (y : Why) → ahead left m c.offset (drop at s) ≡ Err y → pass m left c (drop at s) ≡ stopped m c (drop at s) y
+  unfolding pass carried
+  stands y e =
       let d = drop_at s at h in
-      let f : ahead left m c.offset (get_or s at 0 ∷ drop (at + 1) s) ≡ t = ap (ahead left m c.offset) (sym d) ∙ e in
-      ap (pass m left c) d
-      ∙ ap (λ (x : Turn). carried x (λ m' j. pass m' j (step c (get_or s at 0)) (drop (at + 1) s)) (stopped m c (get_or s at 0 ∷ drop (at + 1) s))) f
-      ∙ q (get_or s at 0 ∷ drop (at + 1) s) (λ m' j. pass m' j (step c (get_or s at 0)) (drop (at + 1) s))
-      ∙ ap (λ (r : List ℕ). stopped m c r y) (sym d)
-
-  pub starts_here : ahead left m c.offset (drop at s) ≡ Start → pass m left c (drop at s) ≡ stopped m c (drop at s) Starts
-  unfolding carried
-  starts_here e = stands Start Starts e (λ r next. refl)
-
-  pub waits_here : (w : Fault) → ahead left m c.offset (drop at s) ≡ Wait w → pass m left c (drop at s) ≡ stopped m c (drop at s) (Waits w)
-  unfolding carried
-  waits_here w e = stands (Wait w) (Waits w) e (λ r next. refl)
-
-  pub stops-here : (w : Fault) → ahead left m c.offset (drop at s) ≡ Refused w → pass m left c (drop at s) ≡ stopped m c (drop at s) (Stops w)
-  unfolding carried
-  stops-here w e = stands (Refused w) (Stops w) e (λ r next. refl)
+      let f : ahead left m c.offset (get_or s at 0 ∷ drop (at + 1) s) ≡ Err y = ap (ahead left m c.offset) (sym d) ∙ e in
+      rw (d, f)
 
 pub none_left : (m : Mode) (left : ℕ) (c : Cursor) (s : List ℕ) (at : ℕ) → length s ≤ at → (w : Fault) → w ≡ wait_of m c.offset → pass m left c (drop at s) ≡ stopped m c (drop at s) (Waits w)
 unfolding pass
@@ -70,7 +56,7 @@ begun s m c p = record { same = refl; inside = omega arith; there = omega arith;
 
 -- one byte further on
 pub next_going : (s : List ℕ) (m₀ : Mode) (c₀ : Cursor) (m : Mode) (left : ℕ) (c : Cursor) (at : ℕ) → Going s m₀ c₀ m left c at → at < length s
-    → (m' : Mode) (j : ℕ) → ahead left m c.offset (drop at s) ≡ On m' j → (d : Cursor) → d ≡ step c (get_or s at 0) → Going s m₀ c₀ m' j d (at + 1)
+    → (m' : Mode) (j : ℕ) → ahead left m c.offset (drop at s) ≡ on m' j → (d : Cursor) → d ≡ step c (get_or s at 0) → Going s m₀ c₀ m' j d (at + 1)
 next_going s m₀ c₀ m left c at g h m' j e d k =
     record { same = next; inside = omega arith; there = ap (λ (x : Cursor). x.offset) k ∙ (let o = g.there in omega arith); able = further }
   where
@@ -106,7 +92,7 @@ along_one c n x f =
 
 -- a stretch whose bytes leave the mode as it is
 module _ (s : List ℕ) (m₀ : Mode) (c₀ : Cursor) (m : Mode) (c : Cursor) (at : ℕ) (g : Going s m₀ c₀ m 0 c at) where
-  pub run_going : (a b p : ℕ) → ((x off : ℕ) (r : List ℕ) → in_stretch a b p 0 x ≡ true → (turn m off (x ∷ r) ≡ On m 0) × (x ≡ newline → ⊥)) → Going s m₀ c₀ m 0 (along c (stretch_end a b p 0 s at - at)) (stretch_end a b p 0 s at)
+  pub run_going : (a b p : ℕ) → ((x off : ℕ) (r : List ℕ) → in_stretch a b p 0 x ≡ true → (turn m off (x ∷ r) ≡ on m 0) × (x ≡ newline → ⊥)) → Going s m₀ c₀ m 0 (along c (stretch_end a b p 0 s at - at)) (stretch_end a b p 0 s at)
   unfolding ahead
   run_going a b p plain = (stretch_carry a b p 0 s (λ (i : ℕ). (at ≤ i) × Going s m₀ c₀ m 0 (along c (i - at)) i) one at (omega arith, subst (λ (x : Cursor). Going s m₀ c₀ m 0 x at) (sym (along-none c (at - at) (omega arith))) g)).1
     where
@@ -117,18 +103,18 @@ module _ (s : List ℕ) (m₀ : Mode) (c₀ : Cursor) (m : Mode) (c : Cursor) (a
           (omega (arith, q.0), next_going s m₀ c₀ m 0 (along c (i - at)) i q.1 h m 0 (ap (turn m (along c (i - at)).offset) (drop_at s i h) ∙ y.0) (along c (i + 1 - at)) (ap (along c) n ∙ along_one c (i - at) (get_or s i 0) y.1))
 
 -- what each mode passes so
-pub blank_byte : (x off : ℕ) (r : List ℕ) → in_stretch space space 0 0 x ≡ true → (turn Blank off (x ∷ r) ≡ On Blank 0) × (x ≡ newline → ⊥)
+pub blank_byte : (x off : ℕ) (r : List ℕ) → in_stretch space space 0 0 x ≡ true → (turn Blank off (x ∷ r) ≡ on Blank 0) × (x ≡ newline → ⊥)
 unfolding turn class_of
 blank_byte x off r t =
     let i = in-stretch space space 0 0 x t in
     let e : x ≡ space = (let k = i.from in let n = i.to in omega arith) in
     (ap (λ (y : ℕ). turn Blank off (y ∷ r)) e, λ n. omega arith)
 
-pub line_byte : (x off : ℕ) (r : List ℕ) → in_stretch space 126 0 0 x ≡ true → (turn Line off (x ∷ r) ≡ On Line 0) × (x ≡ newline → ⊥)
+pub line_byte : (x off : ℕ) (r : List ℕ) → in_stretch space 126 0 0 x ≡ true → (turn Line off (x ∷ r) ≡ on Line 0) × (x ≡ newline → ⊥)
 unfolding turn
 line_byte x off r t = let p = run_byte space 0 x (omega arith) t in (rw (p.0, ne_eqb x newline p.1), p.1)
 
-pub inside_byte : (o x off : ℕ) (r : List ℕ) → in_stretch space 126 star 0 x ≡ true → (turn (Inside o) off (x ∷ r) ≡ On (Inside o) 0) × (x ≡ newline → ⊥)
+pub inside_byte : (o x off : ℕ) (r : List ℕ) → in_stretch space 126 star 0 x ≡ true → (turn (Inside o) off (x ∷ r) ≡ on (Inside o) 0) × (x ≡ newline → ⊥)
 unfolding turn
 inside_byte o x off r t = let p = run_byte space star x (omega arith) t in (rw (p.0, ne_eqb x star (in-stretch space 126 star 0 x t).no_p), p.1)
 
@@ -161,45 +147,42 @@ module _ (s : List ℕ) (m₀ : Mode) (c₀ : Cursor) (m : Mode) (left : ℕ) (c
       ap (λ (k : ℕ). stopped m c (drop k s) y) o ∙ sym (g.same ∙ f)
 
   module _ (h : at < length s) where
-    pub here : Here (length s) at c.offset
-    here = record { there = h; short = (let k = g.able.short in omega arith) }
+    pub here : c.offset ≤ longest
+    here = let k = g.able.short in omega arith
 
     pub able : Movable c
     able = record { offset = (let k = g.able.short in omega arith); line = g.able.line; column = g.able.column }
 
-    module _ (r : Turn) (e : r ≡ ahead left m c.offset (drop at s)) where
-      pub onward : (m' : Mode) (j : ℕ) → r ≡ On m' j → (d : Cursor) → d ≡ step c (get_or s at 0) → Going s m₀ c₀ m' j d (at + 1)
-      onward m' j f d k = next_going s m₀ c₀ m left c at g h m' j (sym e ∙ f) d k
+    module _ (r : Turned) (z : r ≡ ahead left m c.offset (take (length s - at) (drop at s))) where
+      e : r ≡ ahead left m c.offset (drop at s)
+      e = let k = length-drop at s in z ∙ ap (ahead left m c.offset) (take_all (length s - at) (drop at s) (omega arith))
+
+      pub onward : (t : Turn) → r ≡ Ok t → (d : Cursor) → d ≡ step c (get_or s at 0) → Going s m₀ c₀ t.mode t.more d (at + 1)
+      onward t f d k = next_going s m₀ c₀ m left c at g h t.mode t.more (sym e ∙ f) d k
 
       -- the bytes behind it that are passed in a run
-      module _ (m' : Mode) (j : ℕ) (f : r ≡ On m' j) (d : Cursor) (k : d ≡ step c (get_or s at 0)) (end : ℕ) (q : end ≡ plain_end j m' s (at + 1)) where
+      module _ (t : Turn) (f : r ≡ Ok t) (d : Cursor) (k : d ≡ step c (get_or s at 0)) (end : ℕ) (q : end ≡ plain_end t.more t.mode s (at + 1)) where
         pub run-ahead : at + 1 ≤ end
-        run-ahead = rw q (plain_ahead s (at + 1) j m')
+        run-ahead = rw q (plain_ahead s (at + 1) t.more t.mode)
 
         pub run_inside : end ≤ length s
-        run_inside = rw q (plain_inside s (at + 1) j m' (omega arith))
+        run_inside = rw q (plain_inside s (at + 1) t.more t.mode (omega arith))
 
         pub run_able : Passable (end - (at + 1)) d
         run_able =
-            let p = (onward m' j f d k).able in
+            let p = (onward t f d k).able in
             let i = run-ahead in
             let n = run_inside in
             record { short = (let o = p.short in omega arith); line = p.line; column = p.column }
 
-        pub run-on : (d' : Cursor) → d' ≡ along d (end - (at + 1)) → Going s m₀ c₀ m' j d' end
-        run-on d' y = rw (y, q) (plain_going s m₀ c₀ m' j d (at + 1) (onward m' j f d k))
+        pub run-on : (d' : Cursor) → d' ≡ along d (end - (at + 1)) → Going s m₀ c₀ t.mode t.more d' end
+        run-on d' y = rw (y, q) (plain_going s m₀ c₀ t.mode t.more d (at + 1) (onward t f d k))
 
         pub run_less : length s - end < length s - at
         run_less = let i = run-ahead in let n = run_inside in omega arith
 
-      pub starts : r ≡ Start → placed c₀ s (record { mode = m; cursor = c; why = Starts }) ≡ pass m₀ 0 c₀ s
-      starts f = passed Starts (starts_here m left c s at h (sym e ∙ f))
-
-      pub waits : (w : Fault) → r ≡ Wait w → placed c₀ s (record { mode = m; cursor = c; why = Waits w }) ≡ pass m₀ 0 c₀ s
-      waits w f = passed (Waits w) (waits_here m left c s at h w (sym e ∙ f))
-
-      pub refuses : (w : Fault) → r ≡ Refused w → placed c₀ s (record { mode = m; cursor = c; why = Stops w }) ≡ pass m₀ 0 c₀ s
-      refuses w f = passed (Stops w) (stops-here m left c s at h w (sym e ∙ f))
+      pub stops : (y : Why) → r ≡ Err y → placed c₀ s (record { mode = m; cursor = c; why = y }) ≡ pass m₀ 0 c₀ s
+      stops y f = passed y (stands m left c s at h y (sym e ∙ f))
 
   pub ended : length s ≤ at → (w : Fault) → w ≡ wait_of m c.offset → placed c₀ s (record { mode = m; cursor = c; why = Waits w }) ≡ pass m₀ 0 c₀ s
   ended h w e = passed (Waits w) (none_left m left c s at h w e)

@@ -6,8 +6,7 @@ use mathlib.Core.List.{List}
 use borrow.Author.Rules.{rules}
 use lib.ListN.{length, take, drop}
 use Rattle.lexer.specs.Cursor.{start_cursor}
-use Rattle.lexer.specs.Token.{token_here}
-use Rattle.lexer.specs.declared.token.Answer.{Answer}
+use Rattle.lexer.specs.Token.{token_here, Answer}
 use Rattle.chunks.specs.Answers.{filled, Cut}
 use Rattle.chunks.specs.Whole.{cut_at}
 use Rattle.chunks.proofs.Copies.{copied, room}
