@@ -9,14 +9,14 @@ use Rattle.pack.specs.Calls.{PackOutcome}
 use Rattle.pack.specs.ClauseCall.{clause_form, ClausePack}
 use Rattle.pack.specs.declared.format.Form.{Form}
 use Rattle.pack.specs.declared.format.Version.{Version}
-use Rattle.pack.specs.declared.answers.ClausePackAnswer.{ClausePackAnswer}
-use Rattle.pack.specs.declared.answers.PackAnswer.{PackAnswer}
 use Rattle.fields.specs.Fields.{Outcome, leaves, count_fields, refused_fields, Left}
+use Rattle.pack.specs.Answers.{PackAnswer, ClausePackAnswer}
+use Rattle.std.specs.declared.result.Result.TheVariants.{Ok, Err}
 
 -- a packed clause: 0, the cursor behind it and the image's length; or the refusal's number, and its offset
 abbrev pub clause_pack_leaves : ClausePackAnswer → List ℕ → Outcome
-clause_pack_leaves (ClausePackAnswer.Packed n c) d = leaves 0 (sets d 0 (count_fields n c))
-clause_pack_leaves (ClausePackAnswer.Refused w c) d = refused_fields w d
+clause_pack_leaves (Ok p) d = leaves 0 (sets d 0 (count_fields p.length p.next))
+clause_pack_leaves (Err r) d = refused_fields r.fault d
 
 -- the one number that is told, with 0
 abbrev pub numbered : ℕ → List ℕ → Outcome
@@ -28,8 +28,8 @@ unnumbered w d = leaves (number_of w.refusal) d
 
 -- packed nodes, or a moved image: the image's length
 abbrev pub pack_leaves : PackAnswer → List ℕ → Outcome
-pack_leaves (PackAnswer.Packed n) d = numbered n d
-pack_leaves (PackAnswer.Refused w) d = unnumbered w d
+pack_leaves (Ok n) d = numbered n d
+pack_leaves (Err w) d = unnumbered w d
 
 -- ---- each function: the lent slice d is left as x, the fields or the number f as g, and r is returned. Two that are permitted coincide (proofs/Theorems)
 

@@ -6,20 +6,15 @@ ghost use Rattle.std.specs.Prelude.{◌≡◌};
 ghost use Rattle.fields.specs.Fields.{leaves};
 ghost use Rattle.fields_pack.specs.Told.{numbered, clause_pack_leaves, pack_leaves};
 
-use fields::{READ, fault_number, put_count, put_fault};
-use pack::{ClausePackAnswer, PackAnswer};
+use fields::{READ, fault_number, put_counted};
+use lexer::{Fault, Refused};
+use pack::PackedClause;
 
 // The image's length, and the cursor behind the clause.
-pub fn put_clause_pack(answer: ClausePackAnswer, fields: &mut [u64; 5]) -> u32
+pub fn put_clause_pack(answer: Result<PackedClause, Refused>, fields: &mut [u64; 5]) -> u32
     ensures { leaves result fields.new ≡ clause_pack_leaves answer fields.old }
 {
-    match answer {
-        ClausePackAnswer::Refused { fault, cursor: _ } => put_fault(fault, fields),
-        ClausePackAnswer::Packed { length, next } => {
-            put_count(length, next, fields);
-            READ
-        }
-    }
+    put_counted(answer.map(|packed| (packed.length, packed.next)), fields)
 }
 
 // What was counted: bytes, or nodes.
@@ -30,11 +25,12 @@ pub fn put_number(number: usize, told: &mut [u64; 1]) -> u32
     READ
 }
 
-pub fn put_pack(answer: PackAnswer, told: &mut [u64; 1]) -> u32
+// The same, or why there is none.
+pub fn put_pack(answer: Result<usize, Fault>, told: &mut [u64; 1]) -> u32
     ensures { leaves result told.new ≡ pack_leaves answer told.old }
 {
     match answer {
-        PackAnswer::Refused(fault) => fault_number(fault),
-        PackAnswer::Packed(length) => put_number(length, told),
+        Err(fault) => fault_number(fault),
+        Ok(number) => put_number(number, told),
     }
 }

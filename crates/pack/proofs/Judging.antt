@@ -18,11 +18,11 @@ use Rattle.pack.specs.Passes.{word_at, counted, SomePack, PackListed, PackMoved,
 use Rattle.pack.specs.declared.format.Form.{Form}
 use Rattle.pack.specs.declared.format.Form.TheVariants.{One, Two}
 use Rattle.pack.specs.declared.format.Version.{Version}
-use Rattle.pack.specs.declared.answers.PackAnswer.{PackAnswer}
-use Rattle.pack.specs.declared.answers.UnpackAnswer.{UnpackAnswer}
-use Rattle.pack.specs.declared.reading.Counted.{Counted}
-use Rattle.pack.specs.declared.reading.Counted.TheVariants.{Nodes, NoNodes}
-use Rattle.pack.specs.declared.reading.Judged.{Judged}
+use Rattle.pack.specs.Answers.{PackAnswer, UnpackAnswer, unpacked_as}
+use Rattle.std.specs.declared.option.Option.{Option}
+use Rattle.std.specs.declared.option.Option.TheVariants.{Some, None}
+use Rattle.std.specs.declared.result.Result.TheVariants.{Ok, Err}
+use Rattle.pack.specs.declared.answers.Unpacked.{Unpacked}
 use Rattle.pack.proofs.Basics.{Bytes, two_high, two_low, drop-two}
 use Rattle.pack.proofs.Images.{pack_version, pack_some, pack_counted, Read, counts, counted_pack}
 
@@ -61,13 +61,13 @@ form_version Version.Two i = refl
 
 module _ (v : Version) (i : List ℕ) (h : get_or i 0 0 ≡ version_byte v) where
   -- where no count is found there is no pack, of whichever form
-  pub no_count : counted (line_size v) i ≡ NoNodes → (f : Form) (ns : List Node) → IsPack f i ns → ⊥
+  pub no_count : counted (line_size v) i ≡ None → (f : Form) (ns : List Node) → IsPack f i ns → ⊥
   no_count e f ns p =
       let l = line-size v f (sym (pack_version f i ns p) ∙ h) in
       let z : ◌≡◌ {A = ℕ} 0 1 = cc (pack_counted f i ns p, l) in omega arith
 
 -- and where one is found there is a pack of the form that stands there
-pub a_count : (v : Version) (i : List ℕ) (n : ℕ) → Bytes i → get_or i 0 0 ≡ version_byte v → counted (line_size v) i ≡ Nodes n → Read (form_in v i) i n
+pub a_count : (v : Version) (i : List ℕ) (n : ℕ) → Bytes i → get_or i 0 0 ≡ version_byte v → counted (line_size v) i ≡ Some n → Read (form_in v i) i n
 unfolding version line_bytes line
 a_count Version.One i n b h e = counted_pack One i n b (record { versioned = h; lined = refl; line-fits = omega arith }) e
 a_count Version.Two i n b h e =
@@ -90,51 +90,48 @@ is-two (Two l) h = refl
 
 -- ---- as the code judges
 module _ (v : Version) (i : List ℕ) where
-  pub judge_empty : length i < 1 → Judgement v i (Judged.Refused (fault NoPack 0))
+  pub judge_empty : length i < 1 → Judgement v i (Err (fault NoPack 0))
   judge_empty h = let e : length i ≡ 0 = omega arith in refuses (empty e)
 
-  pub judge_other : 1 ≤ length i → (get_or i 0 0 ≡ version_byte v → ⊥) → Judgement v i (Judged.Refused (fault UnknownVersion 0))
+  pub judge_other : 1 ≤ length i → (get_or i 0 0 ≡ version_byte v → ⊥) → Judgement v i (Err (fault UnknownVersion 0))
   judge_other h g = let l : 0 < length i = omega arith in refuses (unknown l g)
 
   module _ (h : get_or i 0 0 ≡ version_byte v) where
-    pub judge_none : counted (line_size v) i ≡ NoNodes → Judgement v i (Judged.Refused (fault NoPack 0))
+    pub judge_none : counted (line_size v) i ≡ None → Judgement v i (Err (fault NoPack 0))
     judge_none e = refuses (Unread.no_pack h (no_count v i h e))
 
-    pub judge_pack : Bytes i → (n : ℕ) → counted (line_size v) i ≡ Nodes n → Judgement v i (Judged.Pack (form_in v i) n)
+    pub judge_pack : Bytes i → (n : ℕ) → counted (line_size v) i ≡ Some n → Judgement v i (unpacked_as (form_in v i) n)
     judge_pack b n e = let r = a_count v i n b h e in finds (form_version v i) (record { nodes = r.nodes; is = r.is; count = r.count })
 
   -- there always is a judgement
   module _ (b : Bytes i) where
-    by_count : get_or i 0 0 ≡ version_byte v → (c : Counted) → counted (line_size v) i ≡ c → (j : Judged) × Judgement v i j
-    by_count h NoNodes e = (_, judge_none h e)
-    by_count h (Nodes n) e = (_, judge_pack h b n e)
+    by_count : get_or i 0 0 ≡ version_byte v → (c : Option ℕ) → counted (line_size v) i ≡ c → (j : UnpackAnswer) × Judgement v i j
+    by_count h None e = (_, judge_none h e)
+    by_count h (Some n) e = (_, judge_pack h b n e)
 
-    by_byte : 1 ≤ length i → (t : Bool) → eqb (get_or i 0 0) (version_byte v) ≡ t → (j : Judged) × Judgement v i j
+    by_byte : 1 ≤ length i → (t : Bool) → eqb (get_or i 0 0) (version_byte v) ≡ t → (j : UnpackAnswer) × Judgement v i j
     by_byte l true e = by_count (eqb-true (get_or i 0 0) (version_byte v) e) (counted (line_size v) i) refl
     by_byte l false e = (_, judge_other l (eqb-false (get_or i 0 0) (version_byte v) e))
 
-    by_length : (t : Bool) → leb 1 (length i) ≡ t → (j : Judged) × Judgement v i j
+    by_length : (t : Bool) → leb 1 (length i) ≡ t → (j : UnpackAnswer) × Judgement v i j
     by_length true e = by_byte (leb-true 1 (length i) e) (eqb (get_or i 0 0) (version_byte v)) refl
     by_length false e = (_, judge_empty (leb-false 1 (length i) e))
 
-    pub a_judgement : (j : Judged) × Judgement v i j
+    pub a_judgement : (j : UnpackAnswer) × Judgement v i j
     a_judgement = by_length (leb 1 (length i)) refl
 
   -- what a judgement says, by its answer
-  pub judged_unread : {j : Judged} → Judgement v i j → (w : Fault) → j ≡ Judged.Refused w → Unread (Only (version_byte v)) i w
+  pub judged_unread : {j : UnpackAnswer} → Judgement v i j → (w : Fault) → j ≡ Err w → Unread (Only (version_byte v)) i w
   judged_unread (refuses {w = u} x) w e = let q : u ≡ w = cc in subst (Unread (Only (version_byte v)) i) q x
   judged_unread (finds x p) w e = let z : ◌≡◌ {A = ℕ} 0 1 = cc in absurd (omega arith)
 
-  pub record Found (f : Form) (n : ℕ) : Type 0 where
-    pub versioned : version f ≡ version_byte v
-    pub pack : SomePack i f n
+  pub record Found (u : Unpacked) : Type 0 where
+    pub versioned : version u.form ≡ version_byte v
+    pub pack : SomePack i u
 
-  pub judged-found : {j : Judged} → Judgement v i j → (f : Form) (n : ℕ) → j ≡ Judged.Pack f n → Found f n
-  judged-found (refuses x) f n e = let z : ◌≡◌ {A = ℕ} 0 1 = cc in absurd (omega arith)
-  judged-found (finds {f = g} {n = m} x p) f n e =
-      let a : g ≡ f = cc in
-      let b : m ≡ n = cc in
-      record { versioned = ap version (sym a) ∙ x; pack = subst (SomePack i f) b (subst (λ (z : Form). SomePack i z m) a p) }
+  pub judged-found : {j : UnpackAnswer} → Judgement v i j → (u : Unpacked) → j ≡ Ok u → Found u
+  judged-found (refuses x) u e = let z : ◌≡◌ {A = ℕ} 0 1 = cc in absurd (omega arith)
+  judged-found (finds {p = q} x k) u e = let a : q ≡ u = cc in subst Found a (record { versioned = x; pack = k })
 
 -- ---- either version
 versioned_byte : (v : Version) → Versioned (version_byte v)
@@ -159,23 +156,23 @@ either_unread i w (Unread.no_pack h g) = Unread.no_pack (subst Versioned (sym h)
 
 -- ---- what each call makes of it
 module _ (i d : List ℕ) where
-  pub old_refused : {w : Fault} → Unread (Only (version_byte Version.One)) i w → UnpackOutcome i d (UnpackAnswer.Refused (fault NoPack 0)) d
+  pub old_refused : {w : Fault} → Unread (Only (version_byte Version.One)) i w → UnpackOutcome i d (Err (fault NoPack 0)) d
   unfolding version
   old_refused u = UnpackOutcome.no_pack (λ ns p. pack_read One i ns p u refl)
 
-  pub either_refused : {w : Fault} → Unread (Only (version_byte (version_in i))) i w → EitherOutcome i d (UnpackAnswer.Refused w) d
+  pub either_refused : {w : Fault} → Unread (Only (version_byte (version_in i))) i w → EitherOutcome i d (Err w) d
   either_refused {w} u = EitherOutcome.unread (either_unread i w u)
 
-  module _ (f : Form) (n : ℕ) where
-    pub old_listed : Found Version.One i f n → {r : UnpackAnswer} {x : List ℕ} → PackListed i f d r x → UnpackOutcome i d r x
+  module _ (u : Unpacked) where
+    pub old_listed : Found Version.One i u → {r : UnpackAnswer} {x : List ℕ} → PackListed i u.form d r x → UnpackOutcome i d r x
     old_listed p {r} {x} l =
-        let e = is_one f p.versioned in
+        let e = is_one u.form p.versioned in
         let ns = p.pack.nodes in
         UnpackOutcome.listed (subst (λ (z : Form). IsPack z i ns) e p.pack.is) (subst (λ (z : Form). Listed z ns d r x) e (l.left ns p.pack.is))
 
-    module _ (v : Version) (p : Found v i f n) where
-      pub either_listed : {r : UnpackAnswer} {x : List ℕ} → PackListed i f d r x → EitherOutcome i d r x
+    module _ (v : Version) (p : Found v i u) where
+      pub either_listed : {r : UnpackAnswer} {x : List ℕ} → PackListed i u.form d r x → EitherOutcome i d r x
       either_listed l = EitherOutcome.listed p.pack.is (l.left p.pack.nodes p.pack.is)
 
-      pub move_written : {g : Form} {r : PackAnswer} {x : List ℕ} → PackMoved i f g d r x → MoveOutcome (version_byte v) g i d r x
+      pub move_written : {g : Form} {r : PackAnswer} {x : List ℕ} → PackMoved i u.form g d r x → MoveOutcome (version_byte v) g i d r x
       move_written l = MoveOutcome.written p.versioned p.pack.is (l.left p.pack.nodes p.pack.is)

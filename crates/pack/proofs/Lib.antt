@@ -1,6 +1,7 @@
 pub mod Basics
 pub mod Trees
 pub mod Scans
+pub mod Stacks
 pub mod Scanned
 pub mod Images
 pub mod Weights

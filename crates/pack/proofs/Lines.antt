@@ -1,18 +1,20 @@
 -- The line that a clause's pack of form 2 says: two bytes hold it, and it is true where the cursor's own line is. Assumes nothing.
-use Prim.Native.Nat.{ℕ, zero, suc, ◌+◌, ◌-◌, ◌<◌, ◌≤◌}
+use Prim.Native.Nat.{ℕ, zero, suc, ◌+◌, ◌-◌, ◌≤◌}
 use mathlib.Core.Path.{◌≡◌, refl, sym, ◌∙◌, ap, subst}
 use mathlib.Core.Bool.{Bool, true, false, cond}
 use mathlib.Core.List.{List, [], ◌∷◌, ◌++◌}
 use native.Mathlib.Omega.{arith}
 use lib.Dec.{eqb}
-use lib.ListN.{length, get_or, take}
+use lib.ListN.{length, take}
 use lib.Seq.{take-add}
+use Rattle.std.specs.List.{count_by}
+use Rattle.std.proofs.lemmas.List.Recursion.{is_count_by}
 use Rattle.lexer.specs.Chars.{newline}
 use Rattle.lexer.specs.Cursor.{step, walk, part, move_to}
 use Rattle.lexer.specs.Token.{Lexeme, lexeme, refused, read_lexeme}
 use Rattle.lexer.specs.declared.cursor.Cursor.{Cursor}
 use Rattle.lexer.specs.declared.token.Source.TheVariants.{File}
-use Rattle.lexer.proofs.Theorems.{is-valid, lexeme_bounds, move_offset, part_at, part_none}
+use Rattle.lexer.proofs.Theorems.{is-valid, lexeme_bounds, move_offset}
 use Rattle.reader.specs.Token.{Token}
 use Rattle.reader.specs.Tree.{Tree}
 use Rattle.reader.specs.Clause.{most_tokens, token_in, is_end, whole, with, onward, gather, first_offset}
@@ -20,7 +22,7 @@ use Rattle.reader.proofs.Theorems.{tokens_apart, clause_starts}
 use Rattle.pack.specs.Node.{most}
 use Rattle.pack.specs.Image.{line}
 use Rattle.pack.specs.ClauseCall.{ClauseAt, form_at, clause_form}
-use Rattle.pack.specs.Walk.{line_behind, Ahead}
+use Rattle.pack.specs.Walk.{Ahead}
 use Rattle.pack.specs.declared.format.Form.TheVariants.{Two}
 use Rattle.pack.specs.declared.format.Version.{Version}
 use Rattle.pack.proofs.Basics.{part_length}
@@ -42,7 +44,7 @@ added : (b : Bool) (n k m : ℕ) → n ≡ k + m → cond b (n + 1) n ≡ cond b
 added true n k m h = omega arith
 added false n k m h = h
 
-newlines_few : (xs : List ℕ) → newlines xs ≤ length xs
+pub newlines_few : (xs : List ℕ) → newlines xs ≤ length xs
 unfolding newlines
 newlines_few [] = omega arith
 newlines_few (x ∷ xs) = let h = newlines_few xs in let k = at_most (eqb x newline) (newlines xs) in omega arith
@@ -63,19 +65,13 @@ unfolding move_to
 line_at s c o = walk-lines c (part c.offset o s)
 
 -- ---- as the code counts them
-pub line-one : (l x : ℕ) → line_behind l x ≤ l + 1
-unfolding line_behind
-line-one l x = at_most (eqb x newline) l
+either_way : (b : Bool) (n : ℕ) → cond b (n + 1) n ≡ cond b (1 + n) n
+either_way true n = omega arith
+either_way false n = refl
 
-module _ (s : List ℕ) (o at : ℕ) where
-  pub lines_end : at ≡ o → newlines (part at o s) ≡ 0
-  unfolding newlines
-  lines_end e = ap (λ (n : ℕ). newlines (part n o s)) e ∙ ap newlines (part_none s o)
-
-  pub lines_on : (l : ℕ) → at < o → o ≤ length s → line_behind l (get_or s at 0) + newlines (part (at + 1) o s) ≡ l + newlines (part at o s)
-  unfolding newlines line_behind
-  lines_on l h i =
-      by_byte (eqb (get_or s at 0) newline) l (newlines (part (at + 1) o s)) ∙ ap (λ (x : List ℕ). l + newlines x) (sym (part_at s at o h i))
+pub newlines_counted : (xs : List ℕ) → newlines xs ≡ count_by (λ (x : ℕ). eqb x newline) xs
+unfolding newlines
+newlines_counted = is_count_by newlines (λ (x : ℕ). eqb x newline) refl (λ x xs. either_way (eqb x newline) (newlines xs))
 
 -- ---- two bytes hold it
 line_before : (s : List ℕ) (c : Cursor) (o : ℕ) → Ahead s c o → (move_to s c o).line ≤ o

@@ -14,8 +14,8 @@ use Rattle.pack.specs.Calls as C
 use Rattle.pack.specs.Moves.{MoveOutcome, MoveUp, MoveDown}
 use Rattle.pack.specs.declared.format.Form.{Form}
 use Rattle.pack.specs.declared.format.Form.TheVariants.{One, Two}
-use Rattle.pack.specs.declared.answers.PackAnswer.{PackAnswer}
-use Rattle.pack.specs.declared.answers.UnpackAnswer.{UnpackAnswer}
+use Rattle.pack.specs.Answers.{PackAnswer, UnpackAnswer}
+use Rattle.std.specs.declared.result.Result.TheVariants.{Ok, Err}
 use Rattle.pack.proofs.Images.{image-length, body-length, pack_length, pack_form, pack_one}
 use Rattle.pack.proofs.Packs.{front}
 use Rattle.pack.proofs.Judging.{pack_read, is_one, is-two}
@@ -31,7 +31,7 @@ never_both i l ns ms p q = let e = pack_form One (Two l) i ns ms p q in let z : 
 
 -- the reader of form 1 alone refuses form 2, and shows nothing of it
 pub old_refuses : (l : ℕ) (i d : List ℕ) (ns : List Node) (r : UnpackAnswer) (x : List ℕ) → IsPack (Two l) i ns → UnpackOutcome i d r x
-    → (r ≡ UnpackAnswer.Refused (fault NoPack 0)) × (x ≡ d)
+    → (r ≡ Err (fault NoPack 0)) × (x ≡ d)
 old_refuses l i d ns r x p (UnpackOutcome.no_pack g) = (refl, refl)
 old_refuses l i d ns r x p (UnpackOutcome.listed {ns = ms} q h) = absurd (never_both i l ms ns q p)
 
@@ -49,7 +49,7 @@ module _ (v : ℕ) (g : Form) (i d : List ℕ) where
     pub from : IsPack form i nodes
     pub to : IsPack g (take n x) nodes
 
-  pub carried : line g ≤ most → (r : PackAnswer) (x : List ℕ) (n : ℕ) → MoveOutcome v g i d r x → r ≡ PackAnswer.Packed n → Carried n x
+  pub carried : line g ≤ most → (r : PackAnswer) (x : List ℕ) (n : ℕ) → MoveOutcome v g i d r x → r ≡ Ok n → Carried n x
   carried s r x n (MoveOutcome.unread u) e = let z : ◌≡◌ {A = ℕ} 0 1 = cc in absurd (omega arith)
   carried s r x n (MoveOutcome.written {f = f} {ns = ns} h p w) e =
       record {
@@ -61,7 +61,7 @@ module _ (v : ℕ) (g : Form) (i d : List ℕ) where
       }
 
 -- from 1 to 2 and back is the same bytes
-pub up-and_down : (i d e : List ℕ) (r q : PackAnswer) (x y : List ℕ) (n : ℕ) → MoveUp i d r x → r ≡ PackAnswer.Packed n → MoveDown (take n x) e q y → length i ≤ length e → Both i e q y
+pub up-and_down : (i d e : List ℕ) (r q : PackAnswer) (x y : List ℕ) (n : ℕ) → MoveUp i d r x → r ≡ Ok n → MoveDown (take n x) e q y → length i ≤ length e → Both i e q y
 unfolding line version
 up-and_down i d e r q x y n a h b l =
     let c = carried 1 (Two 0) i d (omega arith) r x n a h in
@@ -73,10 +73,10 @@ pub record LineLost (i e : List ℕ) (q : PackAnswer) (y : List ℕ) : Type 0 wh
   pub lost : ℕ
   pub nodes : List Node
   pub was : i ≡ image (Two lost) nodes
-  pub answer : q ≡ PackAnswer.Packed (length i)
+  pub answer : q ≡ Ok (length i)
   pub slice : y ≡ sets e 0 (image (Two 0) nodes)
 
-pub down-and_up : (i d e : List ℕ) (r q : PackAnswer) (x y : List ℕ) (n : ℕ) → MoveDown i d r x → r ≡ PackAnswer.Packed n → MoveUp (take n x) e q y → length i ≤ length e → LineLost i e q y
+pub down-and_up : (i d e : List ℕ) (r q : PackAnswer) (x y : List ℕ) (n : ℕ) → MoveDown i d r x → r ≡ Ok n → MoveUp (take n x) e q y → length i ≤ length e → LineLost i e q y
 unfolding line version line_bytes
 down-and_up i d e r q x y n a h b l =
     let c = carried 2 One i d (omega arith) r x n a h in
@@ -87,20 +87,20 @@ down-and_up i d e r q x y n a h b l =
     let j : IsPack (Two 0) (image (Two 0) c.nodes) c.nodes =
     record { acceptable = k.acceptable; line-fits = omega arith; fits = omega (arith, w, k.fits); same = refl } in
     let m = moved_so 1 (Two 0) (take n x) e One c.nodes refl c.to (image (Two 0) c.nodes) j (omega (arith, z)) q y b in
-    record { lost = o; nodes = c.nodes; was = k.same; answer = m.answer ∙ ap PackAnswer.Packed z; slice = m.slice }
+    record { lost = o; nodes = c.nodes; was = k.same; answer = m.answer ∙ ap Ok z; slice = m.slice }
 
 -- 13 is for the move up alone: two bytes fewer always fit
 abbrev number : PackAnswer → ℕ
-number (PackAnswer.Packed n) = 0
-number (PackAnswer.Refused w) = number_of w.refusal
+number (Ok n) = 0
+number (Err w) = number_of w.refusal
 
-written-fits : (f : Form) (ns : List Node) (i d : List ℕ) (r : PackAnswer) (x : List ℕ) → IsPack f i ns → Written One ns d r x → r ≡ PackAnswer.Refused (fault TooLong 0) → ⊥
+written-fits : (f : Form) (ns : List Node) (i d : List ℕ) (r : PackAnswer) (x : List ℕ) → IsPack f i ns → Written One ns d r x → r ≡ Err (fault TooLong 0) → ⊥
 unfolding line_bytes
 written-fits f ns i d r x p (Written.too_long l) e = omega (arith, same_rest f One ns, p.fits)
 written-fits f ns i d r x p (Written.no_room l m) e = let z = ap number e in omega arith
 written-fits f ns i d r x p (packed l m) e = let z = ap number e in omega arith
 
-pub down_fits : (i d : List ℕ) (r : PackAnswer) (x : List ℕ) → MoveDown i d r x → r ≡ PackAnswer.Refused (fault TooLong 0) → ⊥
+pub down_fits : (i d : List ℕ) (r : PackAnswer) (x : List ℕ) → MoveDown i d r x → r ≡ Err (fault TooLong 0) → ⊥
 down_fits i d r x (MoveOutcome.unread (empty h)) e = let z = ap number e in omega arith
 down_fits i d r x (MoveOutcome.unread (unknown h g)) e = let z = ap number e in omega arith
 down_fits i d r x (MoveOutcome.unread (C.Unread.no_pack h g)) e = let z = ap number e in omega arith

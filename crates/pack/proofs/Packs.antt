@@ -16,8 +16,9 @@ use Rattle.pack.specs.Passes.{weighed, Weighs, head_bytes, PackBegun, begun}
 use Rattle.lexer.specs.Refusal.{fault}
 use Rattle.lexer.specs.declared.refusal.Fault.{Fault}
 use Rattle.lexer.specs.declared.refusal.Refusal.TheVariants.{NoPack}
-use Rattle.pack.specs.declared.answers.PackAnswer.{PackAnswer}
-use Rattle.pack.specs.declared.writing.Weighed.TheVariants.{NoTree}
+use Rattle.pack.specs.Answers.{PackAnswer}
+use Rattle.std.specs.declared.option.Option.TheVariants.{None}
+use Rattle.std.specs.declared.result.Result.TheVariants.{Ok, Err}
 use Rattle.pack.proofs.Basics.{sets_append, sets-front}
 use Rattle.pack.proofs.Trees.{stacked, tree_stacked, stacked_tree}
 use Rattle.pack.proofs.Images.{image-length}
@@ -55,10 +56,10 @@ module _ (f : Form) (ns ms : List Node) (d : List ℕ) (e : ns ≡ ms) where
   one_written (Written.no_room h i) (packed k l) = absurd (omega (arith, same_size))
   one_written (packed h i) (Written.too_long k) = absurd (omega (arith, same_body))
   one_written (packed h i) (Written.no_room k l) = absurd (omega (arith, same_size))
-  one_written (packed h i) (packed k l) = (ap PackAnswer.Packed same_size, ap (λ (z : List Node). sets d 0 (image f z)) e)
+  one_written (packed h i) (packed k l) = (ap Ok same_size, ap (λ (z : List Node). sets d 0 (image f z)) e)
 
 -- what stands in front, where it says so
-pub front : (f : Form) (ns : List Node) (d x : List ℕ) (n : ℕ) → Written f ns d (PackAnswer.Packed n) x → Acceptable ns → line f ≤ most → IsPack f (take n x) ns
+pub front : (f : Form) (ns : List Node) (d x : List ℕ) (n : ℕ) → Written f ns d (Ok n) x → Acceptable ns → line f ≤ most → IsPack f (take n x) ns
 front f ns d x n (packed h i) a l = record { acceptable = a; line-fits = l; fits = h; same = sets-front d (image f ns) i }
 
 -- ---- as the code packs: what stands before the nodes, and then they
@@ -68,7 +69,7 @@ pub record Roomy (b : ℕ) (d : List ℕ) : Type 0 where
   pub small : b ≤ most
   pub fits : b + 3 ≤ length d
 
-roomy_so : {f : Form} {n b l : ℕ} {d d' : List ℕ} → PackBegun f n b d (PackAnswer.Packed l) d' → Roomy b d'
+roomy_so : {f : Form} {n b l : ℕ} {d d' : List ℕ} → PackBegun f n b d (Ok l) d' → Roomy b d'
 roomy_so {f} {n} {b} {d = d} (begun s h) = record { small = s; fits = omega (arith, length-sets d 0 (head_bytes f b n)) }
 
 module _ (f : Form) (ns : List Node) where
@@ -77,7 +78,7 @@ module _ (f : Form) (ns : List Node) where
   head_image = ap (λ (l : List ℕ). version f ∷ (two (length (body f ns)) ++ l)) (append_assoc (line_bytes f) (two (length ns)) (nodes_bytes ns))
 
   module _ (n b : ℕ) (c : length ns ≡ n) (e : length (body f ns) ≡ b) where
-    refused_so : {q : Fault} {d d' : List ℕ} → PackBegun f n b d (PackAnswer.Refused q) d' → Written f ns d (PackAnswer.Refused q) d'
+    refused_so : {q : Fault} {d d' : List ℕ} → PackBegun f n b d (Err q) d' → Written f ns d (Err q) d'
     refused_so (PackBegun.too_long h) = Written.too_long (omega (arith, e))
     refused_so (PackBegun.no_room s h) = Written.no_room (omega (arith, e)) (omega (arith, e, image-length f ns))
 
@@ -88,26 +89,26 @@ module _ (f : Form) (ns : List Node) where
         ap (λ (m : ℕ). head_bytes f b m ++ nodes_bytes ns) (sym c) ∙ ap (λ (m : ℕ). head_bytes f m (length ns) ++ nodes_bytes ns) (sym e) ∙ head_image in
         y ∙ sym (sets_append d 0 (begins f) (head_bytes f b n) (nodes_bytes ns) l) ∙ ap (sets d 0) z
 
-    packed_so : {l : ℕ} {d d' : List ℕ} (d'' : List ℕ) → PackBegun f n b d (PackAnswer.Packed l) d' → d'' ≡ sets d' (begins f) (nodes_bytes ns) → Written f ns d (PackAnswer.Packed l) d''
+    packed_so : {l : ℕ} {d d' : List ℕ} (d'' : List ℕ) → PackBegun f n b d (Ok l) d' → d'' ≡ sets d' (begins f) (nodes_bytes ns) → Written f ns d (Ok l) d''
     packed_so {d = d} d'' (begun s h) y =
         let k : length (image f ns) ≡ b + 3 = omega (arith, e, image-length f ns) in
-        let w : Written f ns d (PackAnswer.Packed (length (image f ns))) (sets d 0 (image f ns)) = packed (omega (arith, e)) (omega (arith, k)) in
-        subst (Written f ns d (PackAnswer.Packed (b + 3))) (sym (written d d'' y))
-        (subst (λ (m : ℕ). Written f ns d (PackAnswer.Packed m) (sets d 0 (image f ns))) k w)
+        let w : Written f ns d (Ok (length (image f ns))) (sets d 0 (image f ns)) = packed (omega (arith, e)) (omega (arith, k)) in
+        subst (Written f ns d (Ok (b + 3))) (sym (written d d'' y))
+        (subst (λ (m : ℕ). Written f ns d (Ok m) (sets d 0 (image f ns))) k w)
 
     module _ (d d' : List ℕ) (r : PackAnswer) (o : PackBegun f n b d r d') where
       told : (z : PackAnswer) → r ≡ z → PackBegun f n b d z d'
       told z x = subst (λ (z : PackAnswer). PackBegun f n b d z d') x o
 
-      pub begun-refused : (q : Fault) → r ≡ PackAnswer.Refused q → Written f ns d (PackAnswer.Refused q) d'
-      begun-refused q x = refused_so (told (PackAnswer.Refused q) x)
+      pub begun-refused : (q : Fault) → r ≡ Err q → Written f ns d (Err q) d'
+      begun-refused q x = refused_so (told (Err q) x)
 
-      module _ (l : ℕ) (x : r ≡ PackAnswer.Packed l) where
+      module _ (l : ℕ) (x : r ≡ Ok l) where
         pub begun_roomy : Roomy b d'
-        begun_roomy = roomy_so (told (PackAnswer.Packed l) x)
+        begun_roomy = roomy_so (told (Ok l) x)
 
-        pub begun-packed : (d'' : List ℕ) → d'' ≡ sets d' (begins f) (nodes_bytes ns) → Written f ns d (PackAnswer.Packed l) d''
-        begun-packed d'' y = packed_so d'' (told (PackAnswer.Packed l) x) y
+        pub begun-packed : (d'' : List ℕ) → d'' ≡ sets d' (begins f) (nodes_bytes ns) → Written f ns d (Ok l) d''
+        begun-packed d'' y = packed_so d'' (told (Ok l) x) y
 
 -- ---- nodes that were weighed
 module _ (bytes numbers : List ℕ) (count size : ℕ) (w : Weighs bytes numbers count size) where
@@ -127,13 +128,13 @@ module _ (bytes numbers : List ℕ) (count size : ℕ) (w : Weighs bytes numbers
 
 -- ---- and nodes that are none
 module _ (f : Form) (bytes numbers : List ℕ) (count : ℕ) (d : List ℕ) where
-  pub pack_many : most_nodes < count → PackOutcome f bytes numbers count d (PackAnswer.Refused (fault NoPack 0)) d
+  pub pack_many : most_nodes < count → PackOutcome f bytes numbers count d (Err (fault NoPack 0)) d
   pack_many h = not_nodes (λ ns x a. omega (arith, names_count x, a.few))
 
-  pub pack_few : length numbers < 4 * count → PackOutcome f bytes numbers count d (PackAnswer.Refused (fault NoPack 0)) d
+  pub pack_few : length numbers < 4 * count → PackOutcome f bytes numbers count d (Err (fault NoPack 0)) d
   pack_few h = not_nodes (λ ns x a. omega (arith, names_room x))
 
-  pub pack_no_tree : weighed bytes count 0 0 numbers ≡ NoTree → PackOutcome f bytes numbers count d (PackAnswer.Refused (fault NoPack 0)) d
+  pub pack_no_tree : weighed bytes count 0 0 numbers ≡ None → PackOutcome f bytes numbers count d (Err (fault NoPack 0)) d
   pack_no_tree h =
       not_nodes
       (λ ns x a. let e = weigh_complete bytes 0 0 x a.fitting (ap (stacked 0) (sym a.whole) ∙ tree_stacked a.tree) in

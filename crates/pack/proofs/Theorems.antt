@@ -7,14 +7,13 @@ use mathlib.Core.Logic.{◌⊎◌}
 use mathlib.Core.List.{List}
 use lib.ListN.{length, take}
 use lib.Seq.{sets}
-use Rattle.lexer.specs.Refusal.{fault}
+use Rattle.lexer.specs.Refusal.{fault, refused_at, refuse}
 use Rattle.lexer.specs.declared.cursor.Cursor.{Cursor}
 use Rattle.lexer.specs.declared.refusal.Fault.{Fault}
 use Rattle.lexer.specs.declared.refusal.Refusal.TheVariants.{NoRoom, TooLong, NoPack}
 use Rattle.reader.specs.Token.{Token}
 use Rattle.reader.specs.Tree.{Tree}
 use Rattle.reader.specs.Clause.{first_offset, Outcome}
-use Rattle.reader.specs.declared.clause.ClauseAnswer.{ClauseAnswer}
 use Rattle.reader.proofs.Specimens.{All}
 use Rattle.pack.specs.Node.{Node, nodes, most, most_nodes, Acceptable}
 use Rattle.pack.specs.Node as N
@@ -26,10 +25,8 @@ use Rattle.pack.specs.ClauseCall.{clause_nodes, ClauseAt, clause_form, ClausePac
 use Rattle.pack.specs.declared.format.Form.{Form}
 use Rattle.pack.specs.declared.format.Form.TheVariants.{One, Two}
 use Rattle.pack.specs.declared.format.Version.{Version}
-use Rattle.pack.specs.declared.answers.PackAnswer.{PackAnswer}
-use Rattle.pack.specs.declared.answers.UnpackAnswer.{UnpackAnswer}
-use Rattle.pack.specs.declared.answers.ClausePackAnswer.{ClausePackAnswer}
-use Rattle.pack.specs.declared.answers.ClausePackAnswer.TheVariants.{Packed, Refused}
+use Rattle.pack.specs.Answers.{PackAnswer, UnpackAnswer, ClausePackAnswer, packed_as, unpacked_as}
+use Rattle.std.specs.declared.result.Result.TheVariants.{Ok, Err}
 use Rattle.pack.proofs.Basics.{Bytes}
 use Rattle.pack.proofs.Trees.{stacked, Rooted, tree_stacked, stacked_tree}
 use Rattle.pack.proofs.Images.{pack_form, pack_one}
@@ -40,6 +37,7 @@ use Rattle.pack.proofs.Clauses as K
 use Rattle.pack.proofs.Lines as L
 use Rattle.pack.proofs.ClauseOutcomes as C
 use Rattle.pack.proofs.Specimens.{Packs, clauses, packs, Said, lines, lines_said, Unpacks, images, unpacks}
+use Rattle.std.specs.Prelude.{Err}
 
 -- ---- the format
 
@@ -66,10 +64,10 @@ no_other = stacked_tree
 
 -- The reader of both forms accepts exactly the images of acceptable nodes, and tells their form, given room for 1,023 nodes.
 module _ (i d : List ℕ) (room : 4 * most_nodes ≤ length d) (r : UnpackAnswer) (x : List ℕ) (o : EitherOutcome i d r x) where
-  pub every_pack_accepted : (f : Form) (ns : List Node) → IsPack f i ns → r ≡ UnpackAnswer.Nodes f (length ns)
+  pub every_pack_accepted : (f : Form) (ns : List Node) → IsPack f i ns → r ≡ unpacked_as f (length ns)
   every_pack_accepted f ns = T.accepts_pack i d room f ns r x o
 
-  pub only_packs_accepted : (f : Form) (n : ℕ) → r ≡ UnpackAnswer.Nodes f n → (ns : List Node) × IsPack f i ns
+  pub only_packs_accepted : (f : Form) (n : ℕ) → r ≡ unpacked_as f n → (ns : List Node) × IsPack f i ns
   only_packs_accepted f n = T.accepted_pack i d room f n r x o
 
 -- A pack that is unpacked with room gives its nodes and nothing else.
@@ -81,16 +79,16 @@ pub old_alike : (i d : List ℕ) (ns : List Node) (r : UnpackAnswer) (x : List �
 old_alike = T.old_alike
 
 -- .. and refuses whatever is none. So it refuses form 2, by 14, and shows no clause of it.
-pub only_form_1 : (i d : List ℕ) (f : Form) (n : ℕ) (r : UnpackAnswer) (x : List ℕ) → UnpackOutcome i d r x → r ≡ UnpackAnswer.Nodes f n → (ns : List Node) × IsPack One i ns
+pub only_form_1 : (i d : List ℕ) (f : Form) (n : ℕ) (r : UnpackAnswer) (x : List ℕ) → UnpackOutcome i d r x → r ≡ unpacked_as f n → (ns : List Node) × IsPack One i ns
 only_form_1 = T.old_accepted
 
 pub old_refuses : (l : ℕ) (i d : List ℕ) (ns : List Node) (r : UnpackAnswer) (x : List ℕ) → IsPack (Two l) i ns → UnpackOutcome i d r x
-    → (r ≡ UnpackAnswer.Refused (fault NoPack 0)) × (x ≡ d)
+    → (r ≡ Err (fault NoPack 0)) × (x ≡ d)
 old_refuses = M.old_refuses
 
 -- Unpacking what was packed: what packing leaves in front is a pack of the nodes that it was given ..
 pub sent : (f : Form) (bytes numbers : List ℕ) (count : ℕ) (d : List ℕ) (r : PackAnswer) (x : List ℕ) (n : ℕ) → line f ≤ most → PackOutcome f bytes numbers count d r x
-    → r ≡ PackAnswer.Packed n → T.Sent f bytes numbers count (take n x)
+    → r ≡ Ok n → T.Sent f bytes numbers count (take n x)
 sent = T.sent
 
 -- .. and the numbers that unpacking leaves name those nodes: their kinds, arities and spellings.
@@ -111,16 +109,16 @@ clause_acceptable = K.clause_acceptable
 -- Every clause that has a reading is packed, but for 13 and 9; 9 only where the slice is shorter than the image.
 pub clause_packs : (f : Form) (s : List ℕ) (c : Cursor) (d : List ℕ) (ts : List Token) (e : Cursor) (t : Tree) → ClauseAt s c ts e t → {r : ClausePackAnswer} {x : List ℕ}
     → ClausePack f s c d r x
-    → (r ≡ Packed (length (image f (clause_nodes s ts t))) e) ⊎ (r ≡ Refused (fault TooLong 0) c) ⊎ ((r ≡ Refused (fault NoRoom 0) c) × (length d < length (image f (clause_nodes s ts t))))
+    → (r ≡ packed_as (length (image f (clause_nodes s ts t))) e) ⊎ (r ≡ refuse (fault TooLong 0) c) ⊎ ((r ≡ refuse (fault NoRoom 0) c) × (length d < length (image f (clause_nodes s ts t))))
 clause_packs = C.clause_packs
 
 -- With a slice of 65,538 bytes a refusal is the clause call's, or 13.
-pub clause_fits : (f : Form) (s : List ℕ) (c : Cursor) (d : List ℕ) → longest_image ≤ length d → (w : Fault) (r : ClausePackAnswer) {x : List ℕ} → ClausePack f s c d r x → r ≡ Refused w c
-    → ((tree : List ℕ) → Outcome s c tree (ClauseAnswer.Refused w c) tree) ⊎ (w ≡ fault TooLong 0)
+pub clause_fits : (f : Form) (s : List ℕ) (c : Cursor) (d : List ℕ) → longest_image ≤ length d → (w : Fault) (r : ClausePackAnswer) {x : List ℕ} → ClausePack f s c d r x → r ≡ refuse w c
+    → ((tree : List ℕ) → Outcome s c tree (refuse w c) tree) ⊎ (w ≡ fault TooLong 0)
 clause_fits = C.clause_fits
 
 -- What packing a clause leaves in front is the pack of its nodes, in form 2 with its line ..
-pub clause_sent : (v : Version) (s : List ℕ) (c : Cursor) (d : List ℕ) (r : ClausePackAnswer) (x : List ℕ) (n : ℕ) (e : Cursor) → ClausePack (clause_form v s c) s c d r x → r ≡ Packed n e
+pub clause_sent : (v : Version) (s : List ℕ) (c : Cursor) (d : List ℕ) (r : ClausePackAnswer) (x : List ℕ) (n : ℕ) (e : Cursor) → ClausePack (clause_form v s c) s c d r x → r ≡ packed_as n e
     → C.ClauseSent (clause_form v s c) s c e (take n x)
 clause_sent = C.clause_sent
 
@@ -141,15 +139,15 @@ clause_received = C.clause_received
 -- ---- the moves between the forms
 
 -- From 1 to 2, where it fits, and back is the same bytes;
-pub up-and_down : (i d e : List ℕ) (r q : PackAnswer) (x y : List ℕ) (n : ℕ) → MoveUp i d r x → r ≡ PackAnswer.Packed n → MoveDown (take n x) e q y → length i ≤ length e → T.Both i e q y
+pub up-and_down : (i d e : List ℕ) (r q : PackAnswer) (x y : List ℕ) (n : ℕ) → MoveUp i d r x → r ≡ Ok n → MoveDown (take n x) e q y → length i ≤ length e → T.Both i e q y
 up-and_down = M.up-and_down
 
 -- from 2 to 1 and back differs at most in the line, which is then 0;
-pub down-and_up : (i d e : List ℕ) (r q : PackAnswer) (x y : List ℕ) (n : ℕ) → MoveDown i d r x → r ≡ PackAnswer.Packed n → MoveUp (take n x) e q y → length i ≤ length e → M.LineLost i e q y
+pub down-and_up : (i d e : List ℕ) (r q : PackAnswer) (x y : List ℕ) (n : ℕ) → MoveDown i d r x → r ≡ Ok n → MoveUp (take n x) e q y → length i ≤ length e → M.LineLost i e q y
 down-and_up = M.down-and_up
 
 -- and from 2 to 1 it always fits.
-pub down_fits : (i d : List ℕ) (r : PackAnswer) (x : List ℕ) → MoveDown i d r x → r ≡ PackAnswer.Refused (fault TooLong 0) → ⊥
+pub down_fits : (i d : List ℕ) (r : PackAnswer) (x : List ℕ) → MoveDown i d r x → r ≡ Err (fault TooLong 0) → ⊥
 down_fits = M.down_fits
 
 -- ---- one answer and one content of the slice are permitted: there is one, and two coincide

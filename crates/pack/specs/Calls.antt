@@ -8,19 +8,19 @@ use Rattle.pack.specs.Node.{Node, a_node, most, Acceptable}
 use Rattle.pack.specs.Image.{version, line_bytes, body, image, IsPack}
 use Rattle.pack.specs.declared.format.Form.{Form}
 use Rattle.pack.specs.declared.format.Form.TheVariants.{One}
-use Rattle.pack.specs.declared.answers.PackAnswer.{PackAnswer}
-use Rattle.pack.specs.declared.answers.UnpackAnswer.{UnpackAnswer}
+use Rattle.pack.specs.Answers.{PackAnswer, UnpackAnswer, unpacked_as}
+use Rattle.std.specs.declared.result.Result.TheVariants.{Ok, Err}
 
 -- ---- packing
 
 -- acceptable nodes in the form f, written to the slice d: by each call that packs
 pub data Written (f : Form) (ns : List Node) (d : List ℕ) : PackAnswer → List ℕ → Type 0 where
   -- 13: the body passes 65,535 bytes
-  too_long : most < length (body f ns) → Written f ns d (PackAnswer.Refused (fault TooLong 0)) d
+  too_long : most < length (body f ns) → Written f ns d (Err (fault TooLong 0)) d
   -- 9: the slice is shorter than the image
-  no_room : length (body f ns) ≤ most → length d < length (image f ns) → Written f ns d (PackAnswer.Refused (fault NoRoom 0)) d
+  no_room : length (body f ns) ≤ most → length d < length (image f ns) → Written f ns d (Err (fault NoRoom 0)) d
   -- the image in front, and its length
-  packed : length (body f ns) ≤ most → length (image f ns) ≤ length d → Written f ns d (PackAnswer.Packed (length (image f ns))) (sets d 0 (image f ns))
+  packed : length (body f ns) ≤ most → length (image f ns) ≤ length d → Written f ns d (Ok (length (image f ns))) (sets d 0 (image f ns))
 
 -- four numbers a node: kind, arity, and the start and the length of its spelling in the bytes. So many of them name these nodes
 pub data Names (bytes : List ℕ) : ℕ → List ℕ → List Node → Type 0 where
@@ -31,7 +31,7 @@ pub data Names (bytes : List ℕ) : ℕ → List ℕ → List Node → Type 0 wh
 -- packing the nodes that the numbers name, in the form f, into the slice d
 pub data PackOutcome (f : Form) (bytes : List ℕ) (numbers : List ℕ) (count : ℕ) (d : List ℕ) : PackAnswer → List ℕ → Type 0 where
   -- 14: the numbers name no acceptable nodes
-  not_nodes : ((ns : List Node) → Names bytes count numbers ns → Acceptable ns → ⊥) → PackOutcome f bytes numbers count d (PackAnswer.Refused (fault NoPack 0)) d
+  not_nodes : ((ns : List Node) → Names bytes count numbers ns → Acceptable ns → ⊥) → PackOutcome f bytes numbers count d (Err (fault NoPack 0)) d
   -- 13, 9, or the image
   written : {ns : List Node} {r : PackAnswer} {x : List ℕ} → Names bytes count numbers ns → Acceptable ns → Written f ns d r x → PackOutcome f bytes numbers count d r x
 
@@ -49,14 +49,14 @@ begins f = length (line_bytes f) + 5
 -- the nodes of a pack of the form f, put down in the slice d: by each call that unpacks
 pub data Listed (f : Form) (ns : List Node) (d : List ℕ) : UnpackAnswer → List ℕ → Type 0 where
   -- 9: the slice has no four numbers for each
-  no_room : length d < 4 * length ns → Listed f ns d (UnpackAnswer.Refused (fault NoRoom 0)) d
+  no_room : length d < 4 * length ns → Listed f ns d (Err (fault NoRoom 0)) d
   -- four numbers of each in front, the form, and how many nodes they are
-  unpacked : 4 * length ns ≤ length d → Listed f ns d (UnpackAnswer.Nodes f (length ns)) (sets d 0 (parts (begins f) ns))
+  unpacked : 4 * length ns ≤ length d → Listed f ns d (unpacked_as f (length ns)) (sets d 0 (parts (begins f) ns))
 
 -- unpacking the image i into the slice d, for a reader of form 1 alone
 pub data UnpackOutcome (i d : List ℕ) : UnpackAnswer → List ℕ → Type 0 where
   -- 14: the image is the pack of no nodes
-  no_pack : ((ns : List Node) → IsPack One i ns → ⊥) → UnpackOutcome i d (UnpackAnswer.Refused (fault NoPack 0)) d
+  no_pack : ((ns : List Node) → IsPack One i ns → ⊥) → UnpackOutcome i d (Err (fault NoPack 0)) d
   -- 9, or the nodes
   listed : {ns : List Node} {r : UnpackAnswer} {x : List ℕ} → IsPack One i ns → Listed One ns d r x → UnpackOutcome i d r x
 
@@ -77,6 +77,6 @@ pub record Versioned (b : ℕ) : Type 0 where
 -- unpacking the image i into the slice d, for a reader of both forms
 pub data EitherOutcome (i d : List ℕ) : UnpackAnswer → List ℕ → Type 0 where
   -- 18, 14
-  unread : {w : Fault} → Unread Versioned i w → EitherOutcome i d (UnpackAnswer.Refused w) d
+  unread : {w : Fault} → Unread Versioned i w → EitherOutcome i d (Err w) d
   -- 9, or the nodes
   listed : {f : Form} {ns : List Node} {r : UnpackAnswer} {x : List ℕ} → IsPack f i ns → Listed f ns d r x → EitherOutcome i d r x

@@ -1,5 +1,5 @@
 -- A clause, from its text, as a pack. 02, requests 2 and 13. Definitions only.
-use Rattle.std.specs.Prelude.{ℕ, ◌+◌, ◌≡◌, true, cond, List, [], ◌∷◌, ◌++◌, eqb, length}
+use Rattle.std.specs.Prelude.{ℕ, ◌+◌, ◌≡◌, true, cond, List, [], ◌∷◌, ◌++◌, eqb, length, Err}
 use Rattle.lexer.specs.Cursor.{part, move_to, valid}
 use Rattle.lexer.specs.declared.cursor.Cursor.{Cursor}
 use Rattle.lexer.specs.declared.refusal.Fault.{Fault}
@@ -9,14 +9,13 @@ use Rattle.reader.specs.Tree.{NodeKind, negative, kind_number, Tree, node, Fores
 use Rattle.reader.specs.Grammar.{Reads}
 use Rattle.reader.specs.Clause.{whole, clause_tokens, first_offset, Outcome}
 use Rattle.reader.specs.Listing.{token_at}
-use Rattle.reader.specs.declared.clause.ClauseAnswer.{ClauseAnswer}
 use Rattle.pack.specs.Node.{Node, a_node}
 use Rattle.pack.specs.Calls.{Written}
 use Rattle.pack.specs.declared.format.Form.{Form}
 use Rattle.pack.specs.declared.format.Version.{Version}
-use Rattle.pack.specs.declared.answers.PackAnswer.{PackAnswer}
-use Rattle.pack.specs.declared.answers.ClausePackAnswer.{ClausePackAnswer}
-use Rattle.pack.specs.declared.answers.ClausePackAnswer.TheVariants.{Packed, Refused}
+use Rattle.pack.specs.Answers.{PackAnswer, ClausePackAnswer, packed_as}
+use Rattle.lexer.specs.Refusal.{refused_at, refuse}
+use Rattle.std.specs.declared.result.Result.TheVariants.{Ok, Err}
 
 -- "The spelling is the token's source bytes; for kind 1 it runs on to the number's end": the spelling's last token, of a node at the token i
 unfoldable pub last_of : ℕ → ℕ → ℕ
@@ -61,13 +60,13 @@ clause_form v s c = form_at v s c (first_offset s c)
 
 -- what the pack of its nodes tells, with the cursor e behind the mark; a refusal gives c back
 unfoldable pub told : Cursor → Cursor → PackAnswer → ClausePackAnswer
-told c e (PackAnswer.Packed n) = Packed n e
-told c e (PackAnswer.Refused w) = Refused w c
+told c e (Ok n) = packed_as n e
+told c e (Err w) = refuse w c
 
 -- what the call may answer, and leave in the slice d, in the form f. 14 is no case: a clause's nodes are acceptable (proofs/Theorems)
 pub data ClausePack (f : Form) (s : List ℕ) (c : Cursor) (d : List ℕ) : ClausePackAnswer → List ℕ → Type 0 where
   -- 8, 1 to 7, 10, 11: as the clause call refuses, whatever tree slice it is lent
-  refused : {w : Fault} → ((tree : List ℕ) → Outcome s c tree (ClauseAnswer.Refused w c) tree) → ClausePack f s c d (Refused w c) d
+  refused : {w : Fault} → ((tree : List ℕ) → Outcome s c tree (refuse w c) tree) → ClausePack f s c d (refuse w c) d
   -- 13, 9, or the pack of the reading's nodes
   written : {ts : List Token} {e : Cursor} {t : Tree} {r : PackAnswer} {x : List ℕ} → ClauseAt s c ts e t → Written f (clause_nodes s ts t) d r x →
       ClausePack f s c d (told c e r) x

@@ -1,5 +1,7 @@
 pub mod Node
+pub mod Kinds
 pub mod Image
+pub mod Answers
 pub mod Calls
 pub mod Moves
 pub mod ClauseCall

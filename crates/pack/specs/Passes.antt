@@ -11,32 +11,19 @@ use Rattle.pack.specs.declared.format.Version.{Version}
 use Rattle.lexer.specs.Refusal.{fault}
 use Rattle.lexer.specs.declared.refusal.Fault.{Fault}
 use Rattle.lexer.specs.declared.refusal.Refusal.TheVariants.{NoRoom, TooLong}
-use Rattle.pack.specs.declared.answers.PackAnswer.{PackAnswer}
-use Rattle.pack.specs.declared.answers.UnpackAnswer.{UnpackAnswer}
 use Rattle.pack.specs.declared.reading.Head.{Head}
-use Rattle.pack.specs.declared.reading.Counted.{Counted}
-use Rattle.pack.specs.declared.reading.Counted.TheVariants.{Nodes, NoNodes}
-use Rattle.pack.specs.declared.reading.Judged.{Judged}
 use Rattle.pack.specs.declared.nodes.Given.{Given}
-use Rattle.pack.specs.declared.writing.Weighed.{Weighed}
-use Rattle.pack.specs.declared.writing.Weighed.TheVariants.{Bytes, NoTree}
+use Rattle.pack.specs.Answers.{PackAnswer, UnpackAnswer}
+use Rattle.std.specs.declared.option.Option.{Option}
+use Rattle.std.specs.declared.option.Option.TheVariants.{Some, None}
+use Rattle.std.specs.declared.result.Result.TheVariants.{Ok, Err}
+use Rattle.pack.specs.declared.answers.Unpacked.{Unpacked}
 
 -- ---- numbers
 
--- the greatest of 8, of 16 and of 32 bits
-abbrev pub most_byte : ℕ
-most_byte = 255
-
-abbrev pub most_half : ℕ
-most_half = 65535
-
+-- the greatest of 32 bits
 abbrev pub most_number : ℕ
 most_number = 4294967295
-
--- the same number, of more bits
-pub record Widened (bound x r : ℕ) : Type 0 where
-  pub same : r ≡ x
-  pub below : r ≤ bound
 
 -- a node's four numbers
 abbrev pub four : Given → List ℕ
@@ -98,12 +85,12 @@ pub record Scanning (s : List ℕ) (at n : ℕ) : Type 0 where
   pub few : n ≤ most_nodes
 
 -- the node count of an image whose body has `skip` bytes before that count
-unfoldable pub counted : ℕ → List ℕ → Counted
+unfoldable pub counted : ℕ → List ℕ → Option ℕ
 counted skip s =
     cond (leb (skip + 5) (length s))
     (cond (eqb (word_at s 1) (length s - 3))
     (cond (leb (word_at s (skip + 3)) most_nodes)
-    (cond (scanned (word_at s (skip + 3)) 0 (drop (skip + 5) s)) (Nodes (word_at s (skip + 3))) NoNodes) NoNodes) NoNodes) NoNodes
+    (cond (scanned (word_at s (skip + 3)) 0 (drop (skip + 5) s)) (Some (word_at s (skip + 3))) None) None) None) None
 
 pub record Skips (skip : ℕ) : Type 0 where
   pub small : skip ≤ 2
@@ -130,11 +117,11 @@ pub record Listing (s : List ℕ) (at n : ℕ) (d : List ℕ) : Type 0 where
   pub reading : Reading s at n
   pub room : 4 * n ≤ length d
 
--- the image is the pack of n nodes, in this form
-pub record SomePack (s : List ℕ) (f : Form) (n : ℕ) : Type 0 where
+-- the image is the pack of so many nodes, in this form
+pub record SomePack (s : List ℕ) (p : Unpacked) : Type 0 where
   pub nodes : List Node
-  pub is : IsPack f s nodes
-  pub count : length nodes ≡ n
+  pub is : IsPack p.form s nodes
+  pub count : length nodes ≡ p.count
 
 -- what the numbers of the pack's nodes leave in the slice
 pub record PackListed (s : List ℕ) (f : Form) (d : List ℕ) (r : UnpackAnswer) (d' : List ℕ) : Type 0 where
@@ -161,9 +148,9 @@ pub record Begins (s : List ℕ) (v : Version) : Type 0 where
   pub bytes : (i : ℕ) → get_or s i 0 ≤ 255
 
 -- what an image is to a call that knows this version
-pub data Judgement (v : Version) (s : List ℕ) : Judged → Type 0 where
-  refuses : {w : Fault} → Unread (Only (version_byte v)) s w → Judgement v s (Judged.Refused w)
-  finds : {f : Form} {n : ℕ} → version f ≡ version_byte v → SomePack s f n → Judgement v s (Judged.Pack f n)
+pub data Judgement (v : Version) (s : List ℕ) : UnpackAnswer → Type 0 where
+  refuses : {w : Fault} → Unread (Only (version_byte v)) s w → Judgement v s (Err w)
+  finds : {p : Unpacked} → version p.form ≡ version_byte v → SomePack s p → Judgement v s (Ok p)
 
 -- the version to judge an image by
 unfoldable pub version_in : List ℕ → Version
@@ -176,17 +163,17 @@ pub record PackMoved (s : List ℕ) (f g : Form) (d : List ℕ) (r : PackAnswer)
 -- ---- writing
 
 -- the bytes of n nodes of which w bytes stand before, if they are acceptable with the k trees before
-unfoldable pub weighed : List ℕ → ℕ → ℕ → ℕ → List ℕ → Weighed
-weighed bytes zero k w ns = cond (eqb k 1) (Bytes w) NoTree
-weighed bytes (suc n) k w [] = NoTree
-weighed bytes (suc n) k w (b ∷ []) = NoTree
-weighed bytes (suc n) k w (b ∷ a ∷ []) = NoTree
-weighed bytes (suc n) k w (b ∷ a ∷ at ∷ []) = NoTree
+unfoldable pub weighed : List ℕ → ℕ → ℕ → ℕ → List ℕ → Option ℕ
+weighed bytes zero k w ns = cond (eqb k 1) (Some w) None
+weighed bytes (suc n) k w [] = None
+weighed bytes (suc n) k w (b ∷ []) = None
+weighed bytes (suc n) k w (b ∷ a ∷ []) = None
+weighed bytes (suc n) k w (b ∷ a ∷ at ∷ []) = None
 weighed bytes (suc n) k w (b ∷ a ∷ at ∷ l ∷ ns) =
     cond (leb l most)
     (cond (leb (at + l) (length bytes))
     (cond (can_have b a)
-    (cond (leb a k) (weighed bytes n (k - a + 1) (w + 5 + l) ns) NoTree) NoTree) NoTree) NoTree
+    (cond (leb a k) (weighed bytes n (k - a + 1) (w + 5 + l) ns) None) None) None) None
 
 -- the four numbers of a node
 pub record GivenAt (ns : List ℕ) (place : ℕ) (r : Given) : Type 0 where
@@ -238,14 +225,14 @@ pub record PutNodes (bytes ns : List ℕ) (n room at : ℕ) : Type 0 where
   pub trees : ℕ
   pub before : ℕ
   pub all : ℕ
-  pub weighs : weighed bytes n trees before ns ≡ Bytes all
+  pub weighs : weighed bytes n trees before ns ≡ Some all
   pub few : trees + n ≤ most_nodes
   pub inside : 4 * n ≤ length ns
   pub fits : at + all ≤ room + before
   pub small : at + all ≤ most + 3 + before
 
 pub record Weighs (bytes ns : List ℕ) (count size : ℕ) : Type 0 where
-  pub weighs : weighed bytes count 0 0 ns ≡ Bytes size
+  pub weighs : weighed bytes count 0 0 ns ≡ Some size
   pub inside : 4 * count ≤ length ns
   pub few : count ≤ most_nodes
 
@@ -265,6 +252,6 @@ pub record PutHead (f : Form) (b n room : ℕ) : Type 0 where
 
 -- the tests for 13 and 9, and what stands before the nodes
 pub data PackBegun (f : Form) (n b : ℕ) (d : List ℕ) : PackAnswer → List ℕ → Type 0 where
-  too_long : most < b → PackBegun f n b d (PackAnswer.Refused (fault TooLong 0)) d
-  no_room : b ≤ most → length d < b + 3 → PackBegun f n b d (PackAnswer.Refused (fault NoRoom 0)) d
-  begun : b ≤ most → b + 3 ≤ length d → PackBegun f n b d (PackAnswer.Packed (b + 3)) (sets d 0 (head_bytes f b n))
+  too_long : most < b → PackBegun f n b d (Err (fault TooLong 0)) d
+  no_room : b ≤ most → length d < b + 3 → PackBegun f n b d (Err (fault NoRoom 0)) d
+  begun : b ≤ most → b + 3 ≤ length d → PackBegun f n b d (Ok (b + 3)) (sets d 0 (head_bytes f b n))

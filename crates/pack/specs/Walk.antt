@@ -1,7 +1,6 @@
 -- A clause's tree and the spans of its tokens, node by node: what the private functions of `clause_call` ask and promise. Nobody has to trust it:
 -- proofs/ shows that the nodes are those of ClauseCall.
-use Rattle.std.specs.Prelude.{ℕ, zero, suc, ◌+◌, ◌-◌, ◌*◌, ◌/◌, ◌%◌, ◌<◌, ◌≤◌, ◌≡◌, cond, List, [], ◌∷◌, eqb, length, get_or, drop}
-use Rattle.lexer.specs.Chars.{newline}
+use Rattle.std.specs.Prelude.{ℕ, zero, suc, ◌+◌, ◌-◌, ◌*◌, ◌/◌, ◌%◌, ◌<◌, ◌≤◌, ◌≡◌, List, [], ◌∷◌, length, get_or, drop}
 use Rattle.lexer.specs.Cursor.{longest, part, move_to}
 use Rattle.lexer.specs.declared.cursor.Cursor.{Cursor}
 use Rattle.reader.specs.Listing.{Source}
@@ -70,10 +69,6 @@ pub record PutTree (s ms : List ℕ) (count : ℕ) (starts ends : List ℕ) (roo
   pub small : from + weight starts ends count ms ≤ most + 3
 
 -- ---- the line of the first token
-
--- the line behind a byte of the line l
-unfoldable pub line_behind : ℕ → ℕ → ℕ
-line_behind l x = cond (eqb x newline) (l + 1) l
 
 -- an offset of the text that is not before the cursor
 pub record Ahead (s : List ℕ) (c : Cursor) (o : ℕ) : Type 0 where

@@ -1,26 +1,19 @@
-// What packing and unpacking answer.
+// What packing and unpacking answer, and the refusals that are theirs.
 use crate::format::Form;
 use lexer::{Cursor, Fault, Refusal};
 
-// The image's length.
-#[derive(Clone, Copy)]
-pub enum PackAnswer {
-    Packed(usize),
-    Refused(Fault),
-}
-
 // The pack's form, and the count of nodes.
 #[derive(Clone, Copy)]
-pub enum UnpackAnswer {
-    Nodes { form: Form, count: usize },
-    Refused(Fault),
+pub struct Unpacked {
+    pub form: Form,
+    pub count: usize,
 }
 
 // The image's length, and the cursor after the clause's mark.
 #[derive(Clone, Copy)]
-pub enum ClausePackAnswer {
-    Packed { length: usize, next: Cursor },
-    Refused { fault: Fault, cursor: Cursor },
+pub struct PackedClause {
+    pub length: usize,
+    pub next: Cursor,
 }
 
 // Document 02 names no offset for these, so it is 0.

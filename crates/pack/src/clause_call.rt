@@ -1,123 +1,100 @@
 // A clause, from its text, as a pack.
-ghost use Rattle.std.specs.Prelude.{◌≡◌, ◌≤◌, length};
+ghost use Rattle.std.specs.Prelude.{◌≡◌, ◌≤◌, ◌==◌, length, count_by};
 ghost use Rattle.std.proofs.lemmas.List.Edits.{sets};
+ghost use Rattle.lexer.specs.Chars.{newline};
 ghost use Rattle.reader.specs.LineCall.{ReadTree};
 ghost use Rattle.pack.specs.Calls.{Written};
 ghost use Rattle.pack.specs.ClauseCall.{last_of, form_at, clause_form, ClausePack};
 ghost use Rattle.pack.specs.Image.{nodes_bytes};
-ghost use Rattle.pack.specs.Walk.{NodeAt, GivenNode, Walk, SomeWalk, TreeWeighs, nodes_of, PutTree, line_behind, Ahead, LineAt};
+ghost use Rattle.pack.specs.Walk.{NodeAt, GivenNode, Walk, SomeWalk, TreeWeighs, nodes_of, PutTree, Ahead, LineAt};
 
-use crate::answers::{ClausePackAnswer, PackAnswer};
-use crate::format::{FRONT, Form, Version, first_node};
-use crate::kinds::{KIND_UNIT, NEGATIVE};
+use crate::answers::PackedClause;
+use crate::format::{FRONT, Form, Version};
+use crate::kinds::KIND_UNIT;
 use crate::nodes::Given;
-use crate::widths::{of_half, to_half};
 use crate::writing::{begin_pack, put_node};
-use lexer::Cursor;
-use reader::{ClauseAnswer, read_clause, span_tokens};
+use lexer::{Cursor, Fault, Refused};
+use reader::{NodeKind, read_clause, span_tokens};
 
 // The last token of a node's spelling: a negative number runs on to the number.
 fn last_of(kind: usize, token: usize) -> usize
     requires { token ≤ 65535 }
     ensures { result ≡ last_of kind token }
 {
-    if kind == NEGATIVE {
+    if kind == NodeKind::Negative as usize {
         return token + 1;
     }
     token
 }
 
-// A node of the tree, with its spelling as a part of the text.
-fn given_node(tree: &[u16], at: usize, starts: &[u16], ends: &[u16]) -> Given
-    requires { NodeAt tree.now at starts.now ends.now }
-    ensures { GivenNode tree.now at starts.now ends.now result }
-{
-    let token = of_half(tree[at]);
-    let packed = of_half(tree[at + 1]);
-    let last = last_of(packed / KIND_UNIT, token);
-    let start = of_half(starts[token]);
-    Given {
-        kind: packed / KIND_UNIT,
-        arity: packed % KIND_UNIT,
-        start,
-        size: of_half(ends[last]) - start,
-    }
-}
-
-// The bytes that the nodes take. There is nothing to test: a clause's nodes are acceptable.
-fn weigh_tree(tree: &[u16], count: usize, starts: &[u16], ends: &[u16]) -> usize
-    requires { SomeWalk tree.now count starts.now ends.now }
-    ensures { TreeWeighs tree.now count starts.now ends.now result }
-{
-    let mut left = count;
-    let mut at: usize = 0;
-    let mut size: usize = 0;
-    while 0 < left {
-        let it = given_node(tree, at, starts, ends);
-        size = size + FRONT + it.size;
-        at += 2;
-        left -= 1;
-    }
-    size
-}
-
-// The nodes, one behind the other.
-fn put_tree(
-    text: &[u8],
-    tree: &[u16],
+// A clause's tree: so many nodes, two numbers each, over the spans of its tokens.
+#[derive(Clone, Copy)]
+struct SpannedTree<'a> {
+    tree: &'a [u16],
     count: usize,
-    starts: &[u16],
-    ends: &[u16],
-    out: &mut [u8],
-    from: usize,
-)
-    requires { PutTree text.now tree.now count starts.now ends.now (length out.old) from }
-    ensures { out.new ≡ sets out.old from (nodes_bytes (nodes_of text.now starts.now ends.now count tree.now)) }
-{
-    let mut left = count;
-    let mut at: usize = 0;
-    let mut place = from;
-    while 0 < left {
-        let it = given_node(tree, at, starts, ends);
-        put_node(text, it, out, place);
-        place = place + FRONT + it.size;
-        at += 2;
-        left -= 1;
-    }
+    starts: &'a [u16],
+    ends: &'a [u16],
 }
 
-// The pack of a clause's tree, if it fits.
-fn pack_tree(
-    text: &[u8],
-    tree: &[u16],
-    count: usize,
-    starts: &[u16],
-    ends: &[u16],
-    form: Form,
-    out: &mut [u8],
-) -> PackAnswer
-    requires { Walk text.now tree.now 0 count starts.now ends.now }
-    ensures { Written form (nodes_of text.now starts.now ends.now count tree.now) out.old result out.new }
-{
-    let size = weigh_tree(tree, count, starts, ends);
-    match begin_pack(form, count, size, out) {
-        PackAnswer::Refused(fault) => PackAnswer::Refused(fault),
-        PackAnswer::Packed(length) => {
-            put_tree(text, tree, count, starts, ends, out, first_node(form));
-            PackAnswer::Packed(length)
+impl SpannedTree<'_> {
+    // A node, with its spelling as a part of the text.
+    fn given(&self, at: usize) -> Given
+        requires { NodeAt self.now.tree.now at self.now.starts.now self.now.ends.now }
+        ensures { GivenNode self.now.tree.now at self.now.starts.now self.now.ends.now result }
+    {
+        let token = usize::from(self.tree[at]);
+        let packed = usize::from(self.tree[at + 1]);
+        let last = last_of(packed / KIND_UNIT, token);
+        let start = usize::from(self.starts[token]);
+        Given {
+            kind: packed / KIND_UNIT,
+            arity: packed % KIND_UNIT,
+            start,
+            size: usize::from(self.ends[last]) - start,
         }
     }
+
+    // The bytes that the nodes take. There is nothing to test: a clause's nodes are acceptable.
+    fn weigh(&self) -> usize
+        requires { SomeWalk self.now.tree.now self.now.count self.now.starts.now self.now.ends.now }
+        ensures { TreeWeighs self.now.tree.now self.now.count self.now.starts.now self.now.ends.now result }
+    {
+        let mut size: usize = 0;
+        for i in 0..self.count {
+            size = size + FRONT + self.given(2 * i).size;
+        }
+        size
+    }
+
+    // The nodes, one behind the other.
+    fn put(&self, text: &[u8], out: &mut [u8], from: usize)
+        requires { PutTree text.now self.now.tree.now self.now.count self.now.starts.now self.now.ends.now (length out.old) from }
+        ensures { out.new ≡ sets out.old from (nodes_bytes (nodes_of text.now self.now.starts.now self.now.ends.now self.now.count self.now.tree.now)) }
+    {
+        let mut place = from;
+        for i in 0..self.count {
+            let it = self.given(2 * i);
+            put_node(text, it, out, place);
+            place = place + FRONT + it.size;
+        }
+    }
+
+    // The pack of it, if it fits.
+    fn pack(&self, text: &[u8], form: Form, out: &mut [u8]) -> Result<usize, Fault>
+        requires { Walk text.now self.now.tree.now 0 self.now.count self.now.starts.now self.now.ends.now }
+        ensures { Written form (nodes_of text.now self.now.starts.now self.now.ends.now self.now.count self.now.tree.now) out.old result out.new }
+    {
+        let length = begin_pack(form, self.count, self.weigh(), out)?;
+        self.put(text, out, form.first_node());
+        Ok(length)
+    }
 }
 
-// The line behind a byte of this line.
-fn line_behind(line: usize, b: u8) -> usize
-    requires { line ≤ 65535 }
-    ensures { result ≡ line_behind line b }
+// How many of the bytes are newlines.
+fn newlines(text: &[u8]) -> usize
+    ensures { result ≡ count_by (λ x. x == newline) text.now }
 {
-    if b == b'\n' {
-        return line + 1;
-    }
-    line
+    text.iter().filter(|b| **b == b'\n').count()
 }
 
 // The line of a token that starts at `start`, counted on from the cursor. Behind the token is too late: a quoted item may go on over a line's end.
@@ -125,13 +102,7 @@ fn line_at(text: &[u8], cursor: Cursor, start: usize) -> usize
     requires { Ahead text.now cursor start }
     ensures { LineAt text.now cursor start result }
 {
-    let mut line = cursor.line;
-    let mut at = cursor.offset;
-    while at < start {
-        line = line_behind(line, text[at]);
-        at += 1;
-    }
-    line
+    cursor.line + newlines(&text[cursor.offset..start])
 }
 
 // The form of the pack of a clause whose first token starts at `start`.
@@ -141,11 +112,11 @@ fn form_at(text: &[u8], cursor: Cursor, start: usize, version: Version) -> Form
 {
     match version {
         Version::One => Form::One,
-        Version::Two => Form::Two(to_half(line_at(text, cursor, start) + 1)),
+        Version::Two => Form::Two((line_at(text, cursor, start) + 1) as u16),
     }
 }
 
-// The pack of the clause that was read into the tree.
+// The pack of the clause that was read into the tree. The arrays hold as many spans as a clause can have tokens, since there is no heap.
 fn pack_read(
     text: &[u8],
     cursor: Cursor,
@@ -154,40 +125,36 @@ fn pack_read(
     next: Cursor,
     version: Version,
     out: &mut [u8],
-) -> ClausePackAnswer
+) -> Result<PackedClause, Refused>
     requires { ReadTree text.now cursor tree.now nodes next }
     ensures { ClausePack (clause_form version text.now cursor) text.now cursor out.old result out.new }
 {
     let mut starts = [0u16; 1024];
     let mut ends = [0u16; 1024];
     span_tokens(text, cursor, &mut starts, &mut ends);
-    let form = form_at(text, cursor, of_half(starts[0]), version);
-    match pack_tree(text, tree, nodes, &starts, &ends, form, out) {
-        PackAnswer::Packed(length) => ClausePackAnswer::Packed { length, next },
-        PackAnswer::Refused(fault) => ClausePackAnswer::Refused { fault, cursor },
+    let form = form_at(text, cursor, usize::from(starts[0]), version);
+    let spanned = SpannedTree {
+        tree,
+        count: nodes,
+        starts: &starts,
+        ends: &ends,
+    };
+    match spanned.pack(text, form, out) {
+        Ok(length) => Ok(PackedClause { length, next }),
+        Err(fault) => Err(Refused { fault, cursor }),
     }
 }
 
-// The clause call, and the pack of what it read: a clause has at most 1,023 nodes, so the tree has room.
+// The clause call, and the pack of what it read: a clause has at most 1,023 nodes, so the tree has room, an array, since there is no heap.
 pub fn pack_clause(
     text: &[u8],
     cursor: Cursor,
     version: Version,
     out: &mut [u8],
-) -> ClausePackAnswer
+) -> Result<PackedClause, Refused>
     ensures { ClausePack (clause_form version text.now cursor) text.now cursor out.old result out.new }
 {
     let mut tree = [0u16; 2048];
-    match read_clause(text, cursor, &mut tree) {
-        ClauseAnswer::Refused {
-            fault,
-            cursor: back,
-        } => ClausePackAnswer::Refused {
-            fault,
-            cursor: back,
-        },
-        ClauseAnswer::Read { nodes, next } => {
-            pack_read(text, cursor, &tree, nodes, next, version, out)
-        }
-    }
+    let read = read_clause(text, cursor, &mut tree)?;
+    pack_read(text, cursor, &tree, read.nodes, read.next, version, out)
 }

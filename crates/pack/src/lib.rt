@@ -8,10 +8,9 @@ mod kinds;
 mod moves;
 mod nodes;
 mod reading;
-mod widths;
 mod writing;
 
-pub use answers::{ClausePackAnswer, PackAnswer, UnpackAnswer};
+pub use answers::{PackedClause, Unpacked};
 pub use clause_call::pack_clause;
 pub use format::{Form, Version};
 pub use moves::{move_down, move_up};

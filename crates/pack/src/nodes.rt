@@ -1,11 +1,9 @@
-// Nodes as numbers in a lent slice, four each.
+// Nodes as numbers in a lent slice, four each, as the C interface has them.
 ghost use Rattle.std.specs.Prelude.{◌≡◌, length};
 ghost use Rattle.std.proofs.lemmas.List.Edits.{sets};
 ghost use Rattle.pack.specs.Passes.{Inside, GivenAt, four, PutGiven};
 
-use crate::widths::{of_number, to_number};
-
-// A node by its numbers; its spelling is a part of some bytes.
+// A node by its numbers; its spelling is a part of some bytes. The kind is a number too: the caller or the image may give one that is no kind's.
 #[derive(Clone, Copy)]
 pub struct Given {
     pub kind: usize,
@@ -20,10 +18,10 @@ pub(crate) fn given_at(nodes: &[u32], place: usize) -> Given
     ensures { GivenAt nodes.now place result }
 {
     Given {
-        kind: of_number(nodes[place]),
-        arity: of_number(nodes[place + 1]),
-        start: of_number(nodes[place + 2]),
-        size: of_number(nodes[place + 3]),
+        kind: nodes[place] as usize,
+        arity: nodes[place + 1] as usize,
+        start: nodes[place + 2] as usize,
+        size: nodes[place + 3] as usize,
     }
 }
 
@@ -32,8 +30,8 @@ pub(crate) fn put_given(it: Given, numbers: &mut [u32], place: usize)
     requires { PutGiven it (length numbers.old) place }
     ensures { numbers.new ≡ sets numbers.old place (four it) }
 {
-    numbers[place] = to_number(it.kind);
-    numbers[place + 1] = to_number(it.arity);
-    numbers[place + 2] = to_number(it.start);
-    numbers[place + 3] = to_number(it.size);
+    numbers[place] = it.kind as u32;
+    numbers[place + 1] = it.arity as u32;
+    numbers[place + 2] = it.start as u32;
+    numbers[place + 3] = it.size as u32;
 }

@@ -4,14 +4,10 @@ ghost use Rattle.std.proofs.lemmas.List.Edits.{sets};
 ghost use Rattle.pack.specs.Calls.{UnpackOutcome, EitherOutcome};
 ghost use Rattle.pack.specs.Passes.{Inside, First, Word, Headed, scanned, Scanning, counted, Skips, listed, Listing, SomePack, PackListed, form_in, Begins, Judgement, version_in};
 
-use crate::answers::{NO_PACK, NO_ROOM, UNKNOWN_VERSION, UnpackAnswer};
-use crate::format::{
-    BODY_AT, BYTE, FORM_2, FRONT, Form, LENGTH_AT, MOST_NODES, NUMBERS, Version, first_node,
-    line_size, version_byte,
-};
-use crate::kinds::can_have;
+use crate::answers::{NO_PACK, NO_ROOM, UNKNOWN_VERSION, Unpacked};
+use crate::format::{BODY_AT, FRONT, Form, LENGTH_AT, MOST_NODES, NUMBERS, Version};
+use crate::kinds::stack;
 use crate::nodes::{Given, put_given};
-use crate::widths::{of_byte, to_half};
 use lexer::Fault;
 
 // What stands before a node's spelling.
@@ -22,26 +18,12 @@ pub struct Head {
     pub size: usize,
 }
 
-// The node count of a pack.
-#[derive(Clone, Copy)]
-pub enum Counted {
-    Nodes(usize),
-    NoNodes,
-}
-
-// A pack of the form and the count of nodes, or why it is none.
-#[derive(Clone, Copy)]
-pub enum Judged {
-    Pack { form: Form, count: usize },
-    Refused(Fault),
-}
-
 // The version byte.
 fn version_of(s: &[u8]) -> usize
     requires { Inside s.now 0 1 }
     ensures { First s.now result }
 {
-    of_byte(s[0])
+    usize::from(s[0])
 }
 
 // Two bytes, the higher first.
@@ -49,7 +31,7 @@ fn word_at(s: &[u8], at: usize) -> usize
     requires { Inside s.now at 2 }
     ensures { Word s.now at result }
 {
-    of_byte(s[at]) * BYTE + of_byte(s[at + 1])
+    usize::from(u16::from_be_bytes([s[at], s[at + 1]]))
 }
 
 fn head_at(s: &[u8], at: usize) -> Head
@@ -57,7 +39,7 @@ fn head_at(s: &[u8], at: usize) -> Head
     ensures { Headed s.now at result }
 {
     Head {
-        kind: of_byte(s[at]),
+        kind: usize::from(s[at]),
         arity: word_at(s, at + 1),
         size: word_at(s, at + 3),
     }
@@ -69,9 +51,8 @@ fn scan(s: &[u8], from: usize, count: usize) -> bool
     ensures { result ≡ scanned count 0 (drop from s.now) }
 {
     let mut at = from;
-    let mut left = count;
     let mut trees: usize = 0;
-    while 0 < left {
+    for _ in 0..count {
         if s.len() - at < FRONT {
             return false;
         }
@@ -79,15 +60,11 @@ fn scan(s: &[u8], from: usize, count: usize) -> bool
         if s.len() - at - FRONT < head.size {
             return false;
         }
-        if !can_have(head.kind, head.arity) {
+        let Some(next) = stack(trees, head.kind, head.arity) else {
             return false;
-        }
-        if trees < head.arity {
-            return false;
-        }
-        trees = trees - head.arity + 1;
+        };
+        trees = next;
         at = at + FRONT + head.size;
-        left -= 1;
     }
     if at < s.len() {
         return false;
@@ -96,24 +73,24 @@ fn scan(s: &[u8], from: usize, count: usize) -> bool
 }
 
 // The node count of a pack whose body has `skip` bytes before it. The version is not looked at.
-fn count_nodes(s: &[u8], skip: usize) -> Counted
+fn count_nodes(s: &[u8], skip: usize) -> Option<usize>
     requires { Skips skip }
     ensures { result ≡ counted skip s.now }
 {
     if s.len() < skip + FRONT {
-        return Counted::NoNodes;
+        return None;
     }
     if word_at(s, LENGTH_AT) != s.len() - BODY_AT {
-        return Counted::NoNodes;
+        return None;
     }
     let count = word_at(s, skip + BODY_AT);
     if MOST_NODES < count {
-        return Counted::NoNodes;
+        return None;
     }
     if scan(s, skip + FRONT, count) {
-        return Counted::Nodes(count);
+        return Some(count);
     }
-    Counted::NoNodes
+    None
 }
 
 // The numbers of so many nodes from `from` on, four each, at the front of the slice.
@@ -122,9 +99,7 @@ fn put_numbers(s: &[u8], from: usize, count: usize, nodes: &mut [u32])
     ensures { nodes.new ≡ sets nodes.old 0 (listed count from (drop from s.now)) }
 {
     let mut at = from;
-    let mut left = count;
-    let mut place: usize = 0;
-    while 0 < left {
+    for i in 0..count {
         let head = head_at(s, at);
         let it = Given {
             kind: head.kind,
@@ -132,23 +107,21 @@ fn put_numbers(s: &[u8], from: usize, count: usize, nodes: &mut [u32])
             start: at + FRONT,
             size: head.size,
         };
-        put_given(it, nodes, place);
+        put_given(it, nodes, NUMBERS * i);
         at = at + FRONT + head.size;
-        place += NUMBERS;
-        left -= 1;
     }
 }
 
 // The numbers of a pack of so many nodes, if they fit.
-fn list_pack(image: &[u8], form: Form, count: usize, nodes: &mut [u32]) -> UnpackAnswer
-    requires { SomePack image.now form count }
-    ensures { PackListed image.now form nodes.old result nodes.new }
+fn list_pack(image: &[u8], pack: Unpacked, nodes: &mut [u32]) -> Result<Unpacked, Fault>
+    requires { SomePack image.now pack }
+    ensures { PackListed image.now pack.form nodes.old result nodes.new }
 {
-    if nodes.len() / NUMBERS < count {
-        return UnpackAnswer::Refused(NO_ROOM);
+    if nodes.len() / NUMBERS < pack.count {
+        return Err(NO_ROOM);
     }
-    put_numbers(image, first_node(form), count, nodes);
-    UnpackAnswer::Nodes { form, count }
+    put_numbers(image, pack.form.first_node(), pack.count, nodes);
+    Ok(pack)
 }
 
 // The form that the first bytes of a pack say.
@@ -158,44 +131,42 @@ fn form_in(s: &[u8], version: Version) -> Form
 {
     match version {
         Version::One => Form::One,
-        Version::Two => Form::Two(to_half(word_at(s, BODY_AT))),
+        Version::Two => Form::Two(word_at(s, BODY_AT) as u16),
     }
 }
 
 // What an image of this version is to a call that knows it.
-fn judge_nodes(image: &[u8], version: Version) -> Judged
+fn judge_nodes(image: &[u8], version: Version) -> Result<Unpacked, Fault>
     requires { Begins image.now version }
     ensures { Judgement version image.now result }
 {
-    match count_nodes(image, line_size(version)) {
-        Counted::NoNodes => Judged::Refused(NO_PACK),
-        Counted::Nodes(count) => Judged::Pack {
-            form: form_in(image, version),
-            count,
-        },
-    }
+    let count = count_nodes(image, version.line_size()).ok_or(NO_PACK)?;
+    Ok(Unpacked {
+        form: form_in(image, version),
+        count,
+    })
 }
 
 // What an image is to a call that knows one version.
-pub(crate) fn judge(image: &[u8], version: Version) -> Judged
+pub(crate) fn judge(image: &[u8], version: Version) -> Result<Unpacked, Fault>
     ensures { Judgement version image.now result }
 {
-    if image.len() < 1 {
-        return Judged::Refused(NO_PACK);
+    if image.is_empty() {
+        return Err(NO_PACK);
     }
-    if version_of(image) != version_byte(version) {
-        return Judged::Refused(UNKNOWN_VERSION);
+    if version_of(image) != version.byte() {
+        return Err(UNKNOWN_VERSION);
     }
     judge_nodes(image, version)
 }
 
 // The nodes of a pack of form 1, as masts in the field read it: four numbers each, with the spelling as a part of the image.
-pub fn unpack(image: &[u8], nodes: &mut [u32]) -> UnpackAnswer
+pub fn unpack(image: &[u8], nodes: &mut [u32]) -> Result<Unpacked, Fault>
     ensures { UnpackOutcome image.now nodes.old result nodes.new }
 {
     match judge(image, Version::One) {
-        Judged::Refused(_fault) => UnpackAnswer::Refused(NO_PACK),
-        Judged::Pack { form, count } => list_pack(image, form, count, nodes),
+        Err(_fault) => Err(NO_PACK),
+        Ok(pack) => list_pack(image, pack, nodes),
     }
 }
 
@@ -203,21 +174,19 @@ pub fn unpack(image: &[u8], nodes: &mut [u32]) -> UnpackAnswer
 fn version_in(image: &[u8]) -> Version
     ensures { result ≡ version_in image.now }
 {
-    if image.len() < 1 {
+    if image.is_empty() {
         return Version::One;
     }
-    if version_of(image) == FORM_2 {
+    if version_of(image) == Version::Two.byte() {
         return Version::Two;
     }
     Version::One
 }
 
 // The nodes of a pack of either form, in the same way.
-pub fn unpack_either(image: &[u8], nodes: &mut [u32]) -> UnpackAnswer
+pub fn unpack_either(image: &[u8], nodes: &mut [u32]) -> Result<Unpacked, Fault>
     ensures { EitherOutcome image.now nodes.old result nodes.new }
 {
-    match judge(image, version_in(image)) {
-        Judged::Refused(fault) => UnpackAnswer::Refused(fault),
-        Judged::Pack { form, count } => list_pack(image, form, count, nodes),
-    }
+    let pack = judge(image, version_in(image))?;
+    list_pack(image, pack, nodes)
 }

@@ -6,7 +6,7 @@ use native.Mathlib.Omega.{arith}
 use borrow.Author.Rules.{rules}
 use Rattle.lexer.specs.declared.cursor.Cursor.{Cursor}
 use Rattle.pack.specs.ClauseCall.{form_at}
-use Rattle.pack.specs.Passes.{most_half}
+use Rattle.pack.specs.Node.{most}
 use Rattle.pack.specs.Walk.{Ahead, LineAt}
 use Rattle.pack.specs.declared.format.Form.TheVariants.{One, Two}
 use Rattle.pack.specs.declared.format.Version.{Version}
@@ -18,7 +18,7 @@ module _ (s : List ℕ) (c : Cursor) (o : ℕ) (v : Version) where
   first e = sym (ap (λ (z : Version). form_at z s c o) e)
 
   module _ (a : Ahead s c o) (r : ℕ) (w : LineAt s c o r) where
-    small : r + 1 ≤ most_half
+    small : r + 1 ≤ most
     small = omega (arith, w.before, a.inside, a.short)
 
     second : v ≡ Version.Two → (l : ℕ) → l ≡ r + 1 → Two l ≡ form_at v s c o

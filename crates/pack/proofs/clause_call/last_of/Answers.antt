@@ -18,8 +18,8 @@ module _ (kind i : ℕ) where
 
 ruleset ways = (next, own, rules)
 
-pub returns-then-kind-eq-NEGATIVE : goal.returns-then-kind-eq-NEGATIVE
-returns-then-kind-eq-NEGATIVE c = search ways
+pub returns-then-kind : goal.returns-then-kind
+returns-then-kind c = search ways
 
 pub returns : goal.returns
 returns c = search ways

@@ -16,14 +16,14 @@ use Rattle.reader.proofs.Theorems.{clause_within, span_first, span_part, span_so
 use Rattle.pack.specs.Node.{Node, most_nodes}
 use Rattle.pack.specs.Calls.{Written}
 use Rattle.pack.specs.ClauseCall.{pack_nodes, source_of, clause_nodes, ClauseAt, form_at, clause_form, told, ClausePack, written}
-use Rattle.pack.specs.Passes.{most_half, Widened}
 use Rattle.pack.specs.Walk.{Lying, nothing, Walk, nodes_of, Ahead}
 use Rattle.pack.specs.declared.format.Form.{Form}
 use Rattle.pack.specs.declared.format.Version.{Version}
-use Rattle.pack.specs.declared.answers.PackAnswer.{PackAnswer}
-use Rattle.pack.specs.declared.answers.ClausePackAnswer.{ClausePackAnswer}
+use Rattle.pack.specs.Answers.{PackAnswer, packed_as}
+use Rattle.std.specs.declared.result.Result.TheVariants.{Ok, Err}
 use Rattle.pack.proofs.Clauses.{size, numbers_size, clause_size, lying_tree, spanned, nodes_tree, nodes-same}
 use Rattle.pack.proofs.Lines.{clause_ahead}
+use Rattle.lexer.specs.Refusal.{refuse}
 use Rattle.pack.proofs.clause_call.pack_read.Goals as goal
 
 module _ (s : List ℕ) (c : Cursor) (ms : List ℕ) (nodes : ℕ) (e : Cursor) (w : ReadTree s c ms nodes e) where
@@ -73,9 +73,9 @@ module _ (s : List ℕ) (c : Cursor) (ms : List ℕ) (nodes : ℕ) (e : Cursor) 
         ∙ nodes-same (length w.tokens) (spanned s starts ends) (source_of s w.tokens)
         (span_part s c w.tokens e w.valid_cursor w.gathered starts ends p) w.tree within
 
-    module _ (o : ℕ) (q : Widened most_half (get_or starts 0 0) o) where
+    module _ (o : ℕ) (q : o ≡ get_or starts 0 0) where
       first_is : o ≡ first_offset s c
-      first_is = q.same ∙ span_first s c w.tokens e w.valid_cursor w.gathered starts ends p
+      first_is = q ∙ span_first s c w.tokens e w.valid_cursor w.gathered starts ends p
 
       ahead : Ahead s c o
       ahead = subst (Ahead s c) (sym first_is) (clause_ahead s c w.tokens e w.tree at)
@@ -86,24 +86,24 @@ module _ (s : List ℕ) (c : Cursor) (ms : List ℕ) (nodes : ℕ) (e : Cursor) 
             subst (λ (z : List Node). Written (clause_form v s c) z d r d') nodes_are
             (subst (λ (z : Form). Written z (nodes_of s starts ends nodes ms) d r d') (k ∙ ap (form_at v s c) first_is) h)
 
-        refused : (x : Fault) → r ≡ PackAnswer.Refused x → ClausePack (clause_form v s c) s c d (ClausePackAnswer.Refused x c) d'
+        refused : (x : Fault) → r ≡ Err x → ClausePack (clause_form v s c) s c d (refuse x c) d'
         unfolding told
         refused x y = written at (subst (λ (z : PackAnswer). Written (clause_form v s c) (clause_nodes s w.tokens w.tree) d z d') y its_pack)
 
-        packed : (n : ℕ) → r ≡ PackAnswer.Packed n → ClausePack (clause_form v s c) s c d (ClausePackAnswer.Packed n e) d'
+        packed : (n : ℕ) → r ≡ Ok n → ClausePack (clause_form v s c) s c d (packed_as n e) d'
         unfolding told
         packed n y = written at (subst (λ (z : PackAnswer). Written (clause_form v s c) (clause_nodes s w.tokens w.tree) d z d') y its_pack)
 
 ruleset ways = (spanning, walk, ahead, refused, packed, rules)
 
-pub returns-in-Packed : goal.returns-in-Packed
-returns-in-Packed c = search ways
+pub returns-in-Ok : goal.returns-in-Ok
+returns-in-Ok c = search ways
 
-pub returns-in-Refused : goal.returns-in-Refused
-returns-in-Refused c = search ways
+pub returns-in-Err : goal.returns-in-Err
+returns-in-Err c = search ways
 
 pub form_at-form-requires : goal.form_at-form-requires
 form_at-form-requires c = search ways
 
-pub pack_tree-requires : goal.pack_tree-requires
-pack_tree-requires c = search ways
+pub pack-requires : goal.pack-requires
+pack-requires c = search ways

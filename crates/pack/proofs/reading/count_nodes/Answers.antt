@@ -9,11 +9,11 @@ use borrow.Author.Tests.{le-leb, lt-leb, eq-eqb, ne_eqb}
 use lib.ListN.{length, drop}
 use Rattle.pack.specs.Node.{most_nodes}
 use Rattle.pack.specs.Passes.{Inside, Word, word_at, scanned, Scanning, counted, Skips}
-use Rattle.pack.specs.declared.reading.Counted.TheVariants.{Nodes, NoNodes}
+use Rattle.std.specs.declared.option.Option.TheVariants.{Some, None}
 use Rattle.pack.proofs.reading.count_nodes.Goals as goal
 
 module _ (s : List ℕ) (skip : ℕ) (h : Skips skip) where
-  short : length s < skip + 5 → NoNodes ≡ counted skip s
+  short : length s < skip + 5 → None ≡ counted skip s
   unfolding counted
   short f = cc (lt-leb (skip + 5) (length s) f)
 
@@ -25,12 +25,12 @@ module _ (s : List ℕ) (skip : ℕ) (h : Skips skip) where
     count-inside = record { inside = omega arith }
 
     module _ (r : ℕ) (w : Word s 1 r) where
-      other_size : (r ≡ length s - 3 → ⊥) → NoNodes ≡ counted skip s
+      other_size : (r ≡ length s - 3 → ⊥) → None ≡ counted skip s
       unfolding counted
       other_size g = cc (le-leb (skip + 5) (length s) f, ne_eqb (word_at s 1) (length s - 3) (λ e. g (w.same ∙ e)))
 
       module _ (g : r ≡ length s - 3) (n : ℕ) (x : Word s (skip + 3) n) where
-        many : 1023 < n → NoNodes ≡ counted skip s
+        many : 1023 < n → None ≡ counted skip s
         unfolding counted
         many l =
             cc
@@ -41,13 +41,13 @@ module _ (s : List ℕ) (skip : ℕ) (h : Skips skip) where
           scanning = record { inside = f; few = l }
 
           module _ (b : Bool) (e : b ≡ scanned n 0 (drop (skip + 5) s)) where
-            some-nodes : b ≡ true → Nodes n ≡ counted skip s
+            some-nodes : b ≡ true → Some n ≡ counted skip s
             unfolding counted
             some-nodes t =
                 cc
                 (le-leb (skip + 5) (length s) f, eq-eqb (word_at s 1) (length s - 3) (sym w.same ∙ g), le-leb n most_nodes l, x.same)
 
-            no-tree : b ≡ false → NoNodes ≡ counted skip s
+            no-tree : b ≡ false → None ≡ counted skip s
             unfolding counted
             no-tree t =
                 cc

@@ -4,8 +4,8 @@ use Rattle.pack.proofs.reading.put_numbers.Goals as goal
 
 ruleset ways = (begin, ended, inside, put_asked, again, rules)
 
-pub loop-left-preserved : goal.loop-left-preserved
-loop-left-preserved c = search ways
+pub loop-i-preserved : goal.loop-i-preserved
+loop-i-preserved c = search ways
 
 pub returns : goal.returns
 returns c = search ways

@@ -1,13 +1,13 @@
 -- `pack::reading::put_numbers` meets its contract. The invariant: what is to be stored from the start is what is to be stored from here. Assumes nothing.
 use Prim.Native.Nat.{ℕ, ◌+◌, ◌-◌, ◌*◌, ◌<◌, ◌≤◌}
-use mathlib.Core.Path.{◌≡◌, refl, sym, ◌∙◌, ap}
+use mathlib.Core.Path.{◌≡◌, refl, sym, ◌∙◌, ap, subst}
 use mathlib.Core.List.{List, [], ◌∷◌}
 use native.Mathlib.Omega.{arith}
 use lib.ListN.{length, drop}
 use lib.Seq.{sets, length-sets}
 use Rattle.pack.specs.Passes.{Inside, PutGiven, Headed, listed, Reading, Listing}
 use Rattle.pack.specs.declared.reading.Head.{Head}
-use Rattle.pack.proofs.Basics.{sets_append}
+use Rattle.pack.proofs.Basics.{sets_append, subst-two}
 use Rattle.pack.proofs.Scanned.{scan-inside, scan_passes, list-node, list_end}
 use Rattle.pack.proofs.reading.put_numbers.Given as goal
 
@@ -17,14 +17,29 @@ pub record Inv (s : List ℕ) (from count : ℕ) (d₀ d : List ℕ) (at left pl
   pub room : place + 4 * left ≤ length d
   pub long : length d ≡ length d₀
 
-pub begin : (s : List ℕ) (from count : ℕ) (d : List ℕ) → Listing s from count d → Inv s from count d d from count 0
-begin s from count d h = record { same = refl; here = h.reading; room = omega (arith, h.room); long = refl }
+-- when so many are done
+abbrev pub At : (s : List ℕ) (from count : ℕ) (d₀ d : List ℕ) (at done : ℕ) → Type 0
+At s from count d₀ d at done = Inv s from count d₀ d at (count - done) (4 * done)
 
-module _ (s : List ℕ) (from count : ℕ) (d₀ d : List ℕ) (at left place : ℕ) (v : Inv s from count d₀ d at left place) where
-  pub ended : left ≤ 0 → d ≡ sets d₀ 0 (listed count from (drop from s))
-  ended h = sym (v.same ∙ ap (sets d place) (list_end s at left 0 h))
+pub begin : (s : List ℕ) (from count : ℕ) (d : List ℕ) → Listing s from count d → At s from count d d from 0
+begin s from count d h =
+    let k : count ≡ count - 0 = omega arith in
+    subst (λ (n : ℕ). Inv s from count d d from n 0) k (record { same = refl; here = h.reading; room = omega (arith, h.room); long = refl })
 
-  module _ (h : 0 < left) where
+module _ (s : List ℕ) (from count : ℕ) (d₀ d : List ℕ) (at done : ℕ) (v : At s from count d₀ d at done) where
+  abbrev left : ℕ
+  left = count - done
+
+  abbrev place : ℕ
+  place = 4 * done
+
+  pub ended : count ≤ done → d ≡ sets d₀ 0 (listed count from (drop from s))
+  ended h = sym (v.same ∙ ap (sets d place) (list_end s at left 0 (omega arith)))
+
+  module _ (o : done < count) where
+    h : 0 < left
+    h = omega arith
+
     pub five : at + 5 ≤ length s
     five = scan-inside s at left v.here.trees h v.here.reads
 
@@ -46,11 +61,14 @@ module _ (s : List ℕ) (from count : ℕ) (d₀ d : List ℕ) (at left place : 
         pub next-length : length d' ≡ length d
         next-length = ap length e ∙ length-sets d place (r.kind ∷ r.arity ∷ (at + 5) ∷ r.size ∷ [])
 
-        pub again : Inv s from count d₀ d' (at + 5 + r.size) (left - 1) (place + 4)
+        pub again : At s from count d₀ d' (at + 5 + r.size) (done + 1)
         again =
             let x = listed (left - 1) (at + 5 + r.size) (drop (at + 5 + r.size) s) in
             let q = scan_passes s at left v.here.trees h five r g v.here.reads in
-            record {
+            let k : left - 1 ≡ count - (done + 1) = omega arith in
+            let m : place + 4 ≡ 4 * (done + 1) = omega arith in
+            subst-two (Inv s from count d₀ d' (at + 5 + r.size)) k m
+            (record {
               same =
                   v.same ∙ ap (sets d place) (list-node s at left 0 h five r g)
                   ∙ sets_append d place (place + 4) (r.kind ∷ r.arity ∷ (at + 5) ∷ r.size ∷ []) x (omega arith)
@@ -58,10 +76,7 @@ module _ (s : List ℕ) (from count : ℕ) (d₀ d : List ℕ) (at left place : 
               here = record { trees = v.here.trees - r.arity + 1; reads = q.on; inside = q.size-inside; short = v.here.short };
               room = omega (arith, next-length, v.room);
               long = next-length ∙ v.long;
-            }
+            })
 
-abbrev pub invariant-loop-left : goal.invariant-loop-left
-invariant-loop-left l = Inv l.s l.from l.count l.initial.nodes l.nodes l.at l.left l.place
-
-abbrev pub decreases-loop-left : goal.decreases-loop-left
-decreases-loop-left l = l.left
+abbrev pub invariant-loop-i : goal.invariant-loop-i
+invariant-loop-i l = At l.s l.from l.count l.initial.nodes l.nodes l.at l.i

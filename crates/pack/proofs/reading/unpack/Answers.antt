@@ -8,28 +8,28 @@ use Rattle.lexer.specs.declared.refusal.Fault.{Fault}
 use Rattle.lexer.specs.declared.refusal.Refusal.TheVariants.{NoPack}
 use Rattle.pack.specs.Calls.{UnpackOutcome}
 use Rattle.pack.specs.Passes.{SomePack, PackListed, Judgement}
-use Rattle.pack.specs.declared.format.Form.{Form}
 use Rattle.pack.specs.declared.format.Version.{Version}
-use Rattle.pack.specs.declared.answers.UnpackAnswer.{UnpackAnswer}
-use Rattle.pack.specs.declared.reading.Judged.{Judged}
+use Rattle.pack.specs.Answers.{UnpackAnswer}
+use Rattle.std.specs.declared.result.Result.TheVariants.{Ok, Err}
+use Rattle.pack.specs.declared.answers.Unpacked.{Unpacked}
 use Rattle.pack.proofs.Judging.{judged_unread, judged-found, old_refused, old_listed}
 use Rattle.pack.proofs.reading.unpack.Goals as goal
 
 -- by whichever version it was judged
-some : (i : List ℕ) (v : Version) (j : Judged) → Judgement v i j → (f : Form) (n : ℕ) → j ≡ Judged.Pack f n → SomePack i f n
-some i v j o f n e = (judged-found v i o f n e).pack
+some : (i : List ℕ) (v : Version) (j : UnpackAnswer) → Judgement v i j → (u : Unpacked) → j ≡ Ok u → SomePack i u
+some i v j o u e = (judged-found v i o u e).pack
 
-module _ (i : List ℕ) (j : Judged) (o : Judgement Version.One i j) where
-  refused : (d : List ℕ) (w : Fault) → j ≡ Judged.Refused w → UnpackOutcome i d (UnpackAnswer.Refused (fault NoPack 0)) d
+module _ (i : List ℕ) (j : UnpackAnswer) (o : Judgement Version.One i j) where
+  refused : (d : List ℕ) (w : Fault) → j ≡ Err w → UnpackOutcome i d (Err (fault NoPack 0)) d
   refused d w e = old_refused i d (judged_unread Version.One i o w e)
 
-  done : (f : Form) (n : ℕ) → j ≡ Judged.Pack f n → (d : List ℕ) (r : UnpackAnswer) (x : List ℕ) → PackListed i f d r x → UnpackOutcome i d r x
-  done f n e d r x l = old_listed i d f n (judged-found Version.One i o f n e) l
+  done : (u : Unpacked) → j ≡ Ok u → (d : List ℕ) (r : UnpackAnswer) (x : List ℕ) → PackListed i u.form d r x → UnpackOutcome i d r x
+  done u e d r x l = old_listed i d u (judged-found Version.One i o u e) l
 
 ruleset ways = (refused, some, done, rules)
 
-pub returns-in-Refused : goal.returns-in-Refused
-returns-in-Refused c = search ways
+pub returns-in-Err : goal.returns-in-Err
+returns-in-Err c = search ways
 
-pub returns-in-Pack : goal.returns-in-Pack
-returns-in-Pack c = search ways
+pub returns-in-Ok : goal.returns-in-Ok
+returns-in-Ok c = search ways

@@ -8,7 +8,7 @@ use lib.ListN.{length}
 use lib.Seq.{sets, length-sets}
 use Rattle.pack.specs.Image.{two, version, line_bytes}
 use Rattle.pack.specs.Calls.{begins}
-use Rattle.pack.specs.Passes.{most_half, Widened, PutWord, PutFront, head_bytes, PutHead}
+use Rattle.pack.specs.Passes.{PutWord, PutFront, head_bytes, PutHead}
 use Rattle.pack.specs.declared.format.Form.{Form}
 use Rattle.pack.specs.declared.format.Form.TheVariants.{One, Two}
 use Rattle.pack.proofs.Basics.{sets_append}
@@ -26,16 +26,10 @@ module _ (f : Form) (b n : ℕ) where
     unfolding version line_bytes
     done-one d d' x = x ∙ ap (λ (g : Form). sets d 0 (head_bytes g b n)) (sym e)
 
-  module _ (l : ℕ) (e : f ≡ Two l) (m : ℕ) (w : Widened most_half l m) where
-    room_two : (room : ℕ) → PutHead f b n room → PutFront room 0 2 b m
-    unfolding line_bytes
-    room_two room h =
-        let k = ap begins e in
-        record { inside = omega (arith, h.inside, k); kind_small = omega arith; arity_small = h.body_small; size_small = w.below }
-
-    module _ (d d' : List ℕ) (x : d' ≡ sets d 0 (2 ∷ (two b ++ two m))) where
+  module _ (l : ℕ) (e : f ≡ Two l) (m : ℕ) (w : m ≡ l) where
+    module _ (v : ℕ) (z : v ≡ 2) (d d' : List ℕ) (x : d' ≡ sets d 0 (v ∷ (two b ++ two m))) where
       kept : length d' ≡ length d
-      kept = ap length x ∙ length-sets d 0 (2 ∷ (two b ++ two m))
+      kept = ap length x ∙ length-sets d 0 (v ∷ (two b ++ two m))
 
       room_count : PutHead f b n (length d) → PutWord (length d') 5 n
       unfolding line_bytes
@@ -44,12 +38,13 @@ module _ (f : Form) (b n : ℕ) where
       done-two : (d'' : List ℕ) → d'' ≡ sets d' 5 (two n) → d'' ≡ sets d 0 (head_bytes f b n)
       unfolding version line_bytes
       done-two d'' y =
-          y ∙ ap (λ (z : List ℕ). sets z 5 (two n)) x
-          ∙ sym (sets_append d 0 5 (2 ∷ (two b ++ two m)) (two n) refl)
-          ∙ ap (λ (k : ℕ). sets d 0 (2 ∷ (two b ++ (two k ++ two n)))) w.same
+          y ∙ ap (λ (u : List ℕ). sets u 5 (two n)) x
+          ∙ sym (sets_append d 0 5 (v ∷ (two b ++ two m)) (two n) refl)
+          ∙ ap (λ (k : ℕ). sets d 0 (k ∷ (two b ++ (two m ++ two n)))) z
+          ∙ ap (λ (k : ℕ). sets d 0 (2 ∷ (two b ++ (two k ++ two n)))) w
           ∙ ap (λ (g : Form). sets d 0 (head_bytes g b n)) (sym e)
 
-ruleset ways = (room_one, done-one, room_two, kept, room_count, done-two, rules)
+ruleset ways = (room_one, done-one, kept, room_count, done-two, rules)
 
 pub returns-in-One : goal.returns-in-One
 returns-in-One c = search ways

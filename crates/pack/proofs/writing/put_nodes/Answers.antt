@@ -4,8 +4,8 @@ use Rattle.pack.proofs.writing.put_nodes.Goals as goal
 
 ruleset ways = (begin, ended, four-inside, node_asked, at-fits, size_fits, again, rules)
 
-pub loop-left-preserved : goal.loop-left-preserved
-loop-left-preserved c = search ways
+pub loop-i-preserved : goal.loop-i-preserved
+loop-i-preserved c = search ways
 
 pub returns : goal.returns
 returns c = search ways
@@ -16,5 +16,5 @@ put_node-requires c = search ways
 pub overflow_add-at : goal.overflow_add-at
 overflow_add-at c = search ways
 
-pub overflow_add-at-in-loop-left : goal.overflow_add-at-in-loop-left
-overflow_add-at-in-loop-left c = search ways
+pub overflow_add-at-in-loop-i : goal.overflow_add-at-in-loop-i
+overflow_add-at-in-loop-i c = search ways

@@ -1,6 +1,6 @@
 -- `pack::writing::put_nodes` meets its contract. The invariant: what is to be stored from the start is what is to be stored from here. Assumes nothing.
 use Prim.Native.Nat.{ℕ, ◌+◌, ◌-◌, ◌*◌, ◌<◌, ◌≤◌}
-use mathlib.Core.Path.{◌≡◌, refl, sym, ◌∙◌, ap}
+use mathlib.Core.Path.{◌≡◌, refl, sym, ◌∙◌, ap, subst}
 use mathlib.Core.List.{List}
 use native.Mathlib.Omega.{arith}
 use mir.Syntax.{w64}
@@ -11,7 +11,7 @@ use Rattle.pack.specs.Node.{a_node}
 use Rattle.pack.specs.Image.{node_bytes}
 use Rattle.pack.specs.Passes.{Inside, GivenAt, laid, PutNode, PutNodes}
 use Rattle.pack.specs.declared.nodes.Given.{Given}
-use Rattle.pack.proofs.Basics.{sets_append, part_length}
+use Rattle.pack.proofs.Basics.{sets_append, part_length, subst-two}
 use Rattle.pack.proofs.Scans.{node_length}
 use Rattle.pack.proofs.Weights.{can_small}
 use Rattle.pack.proofs.Weighing.{Weighty, weigh_first, laid_node, laid_end}
@@ -23,14 +23,29 @@ pub record Inv (bytes ns : List ℕ) (count : ℕ) (d₀ : List ℕ) (from : ℕ
   pub inside : place + 4 * left ≤ length ns
   pub long : length d ≡ length d₀
 
-pub begin : (bytes ns : List ℕ) (count : ℕ) (d : List ℕ) (from : ℕ) → PutNodes bytes ns count (length d) from → Inv bytes ns count d from d count 0 from
-begin bytes ns count d from h = record { same = refl; here = h; inside = omega (arith, h.inside); long = refl }
+-- when so many are done
+abbrev pub At : (bytes ns : List ℕ) (count : ℕ) (d₀ : List ℕ) (from : ℕ) (d : List ℕ) (done at : ℕ) → Type 0
+At bytes ns count d₀ from d done at = Inv bytes ns count d₀ from d (count - done) (4 * done) at
 
-module _ (bytes ns : List ℕ) (count : ℕ) (d₀ : List ℕ) (from : ℕ) (d : List ℕ) (left place at : ℕ) (v : Inv bytes ns count d₀ from d left place at) where
-  pub ended : left ≤ 0 → d ≡ sets d₀ from (laid bytes count ns)
-  ended h = sym (v.same ∙ ap (sets d at) (laid_end bytes ns place left 0 0 h))
+pub begin : (bytes ns : List ℕ) (count : ℕ) (d : List ℕ) (from : ℕ) → PutNodes bytes ns count (length d) from → At bytes ns count d from d 0 from
+begin bytes ns count d from h =
+    let k : count ≡ count - 0 = omega arith in
+    subst (λ (n : ℕ). Inv bytes ns count d from d n 0 from) k (record { same = refl; here = h; inside = omega (arith, h.inside); long = refl })
 
-  module _ (h : 0 < left) where
+module _ (bytes ns : List ℕ) (count : ℕ) (d₀ : List ℕ) (from : ℕ) (d : List ℕ) (done at : ℕ) (v : At bytes ns count d₀ from d done at) where
+  abbrev left : ℕ
+  left = count - done
+
+  abbrev place : ℕ
+  place = 4 * done
+
+  pub ended : count ≤ done → d ≡ sets d₀ from (laid bytes count ns)
+  ended o = let h : left ≤ 0 = omega arith in sym (v.same ∙ ap (sets d at) (laid_end bytes ns place left 0 0 h))
+
+  module _ (o : done < count) where
+    h : 0 < left
+    h = omega arith
+
     pub four : place + 4 ≤ length ns
     four = omega (arith, v.inside)
 
@@ -55,12 +70,15 @@ module _ (bytes ns : List ℕ) (count : ℕ) (d₀ : List ℕ) (from : ℕ) (d :
         pub next-length : length d' ≡ length d
         next-length = ap length e ∙ length-sets d at (node_bytes (a_node r.kind r.arity (take r.size (drop r.start bytes))))
 
-        pub again : Inv bytes ns count d₀ from d' (left - 1) (place + 4) (at + 5 + r.size)
+        pub again : At bytes ns count d₀ from d' (done + 1) (at + 5 + r.size)
         again =
             let n = a_node r.kind r.arity (take r.size (drop r.start bytes)) in
             let x = laid bytes (left - 1) (drop (place + 4) ns) in
             let l : at + length (node_bytes n) ≡ at + 5 + r.size = omega (arith, node_length n, part_length r.start r.size bytes first.inside) in
-            record {
+            let k : left - 1 ≡ count - (done + 1) = omega arith in
+            let w : place + 4 ≡ 4 * (done + 1) = omega arith in
+            subst-two (λ (m f : ℕ). Inv bytes ns count d₀ from d' m f (at + 5 + r.size)) k w
+            (record {
               same =
                   v.same ∙ ap (sets d at) (laid_node bytes ns place left 0 0 h four r g) ∙ sets_append d at (at + 5 + r.size) (node_bytes n) x l
                   ∙ ap (λ (m : List ℕ). sets m (at + 5 + r.size) x) (sym e);
@@ -77,7 +95,7 @@ module _ (bytes ns : List ℕ) (count : ℕ) (d₀ : List ℕ) (from : ℕ) (d :
                   };
               inside = omega (arith, v.inside);
               long = next-length ∙ v.long;
-            }
+            })
 
       pub at-fits : Fits w64 (at + 5)
       at-fits = record { fits = omega (arith, first.grows, v.here.small) }
@@ -85,8 +103,5 @@ module _ (bytes ns : List ℕ) (count : ℕ) (d₀ : List ℕ) (from : ℕ) (d :
       pub size_fits : Fits w64 (at + 5 + r.size)
       size_fits = record { fits = omega (arith, first.grows, v.here.small) }
 
-abbrev pub invariant-loop-left : goal.invariant-loop-left
-invariant-loop-left l = Inv l.bytes l.nodes l.count l.initial.out l.from l.out l.left l.place l.at
-
-abbrev pub decreases-loop-left : goal.decreases-loop-left
-decreases-loop-left l = l.left
+abbrev pub invariant-loop-i : goal.invariant-loop-i
+invariant-loop-i l = At l.bytes l.nodes l.count l.initial.out l.from l.out l.i l.at

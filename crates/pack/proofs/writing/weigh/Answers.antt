@@ -1,8 +1,8 @@
 use borrow.Author.Rules.{rules}
-use Rattle.pack.proofs.writing.weigh.Invariants.{begin, four-inside, heavy, outside, never, fewer, again, one_tree, not-one}
+use Rattle.pack.proofs.writing.weigh.Invariants.{begin, four-inside, heavy, outside, off, again, one_tree, not-one}
 use Rattle.pack.proofs.writing.weigh.Goals as goal
 
-ruleset ways = (begin, four-inside, heavy, outside, never, fewer, again, one_tree, not-one, rules)
+ruleset ways = (begin, four-inside, heavy, outside, off, again, one_tree, not-one, rules)
 
 pub returns-then-it-gt-LONGEST_SPELLING : goal.returns-then-it-gt-LONGEST_SPELLING
 returns-then-it-gt-LONGEST_SPELLING c = search ways
@@ -10,14 +10,14 @@ returns-then-it-gt-LONGEST_SPELLING c = search ways
 pub returns-then-bytes-it : goal.returns-then-bytes-it
 returns-then-bytes-it c = search ways
 
-pub returns-then-not-can_have : goal.returns-then-not-can_have
-returns-then-not-can_have c = search ways
+pub returns-in_err-trees : goal.returns-in_err-trees
+returns-in_err-trees c = search ways
 
-pub returns-then-trees-it : goal.returns-then-trees-it
-returns-then-trees-it c = search ways
-
-pub loop-left-preserved : goal.loop-left-preserved
-loop-left-preserved c = search ways
+pub loop-i-preserved : goal.loop-i-preserved
+loop-i-preserved c =
+    again c.args.bytes.now c.args.nodes.now c.args.count c.loop-i.i c.loop-i.trees c.loop-i.size c.loop-i.invariant c.loop-i-test.true
+    c.given_at-it.result c.given_at-it.ensures c.if-it-gt-LONGEST_SPELLING.false c.if-bytes-it.false c.stack.result c.stack.ensures
+    c.in_ok-trees.trees c.in_ok-trees.was
 
 pub returns-then-trees-eq1 : goal.returns-then-trees-eq1
 returns-then-trees-eq1 c = search ways

@@ -1,15 +1,18 @@
 -- `pack::writing::weigh` meets its contract. The invariant: the weight from the start is the weight from here. Assumes nothing.
 use Prim.Native.Nat.{ℕ, ◌+◌, ◌-◌, ◌*◌, ◌<◌, ◌≤◌}
-use mathlib.Core.Path.{◌≡◌, refl, sym, ◌∙◌}
-use mathlib.Core.Bool.{Bool, true, false, not}
+use mathlib.Core.Path.{◌≡◌, refl, sym, ◌∙◌, subst}
 use mathlib.Core.List.{List}
 use native.Mathlib.Omega.{arith}
-use borrow.Author.Tests.{not-true, not-false, le-leb, lt-leb, eq-eqb, ne_eqb}
+use borrow.Author.Tests.{le-leb, lt-leb, eq-eqb, ne_eqb}
 use lib.ListN.{length, drop}
-use Rattle.pack.specs.Node.{can_have, most, most_nodes}
+use Rattle.pack.specs.Node.{most, most_nodes}
 use Rattle.pack.specs.Passes.{Inside, GivenAt, weighed, Weighing}
 use Rattle.pack.specs.declared.nodes.Given.{Given}
-use Rattle.pack.specs.declared.writing.Weighed.TheVariants.{Bytes, NoTree}
+use Rattle.std.specs.declared.option.Option.TheVariants.{Some, None}
+use Rattle.pack.proofs.Basics.{subst-two}
+use Rattle.std.specs.declared.option.Option.{Option}
+use Rattle.pack.specs.Kinds.{stack}
+use Rattle.pack.proofs.Stacks.{stack_off, stands}
 use Rattle.pack.proofs.Weighing.{weigh_node, weigh_end}
 use Rattle.pack.proofs.writing.weigh.Given as goal
 
@@ -19,12 +22,27 @@ pub record Inv (bytes ns : List ℕ) (count left place trees size : ℕ) : Type 
   pub bound : trees + left ≤ most_nodes
   pub light : size + left * 65540 ≤ 67047420
 
-pub begin : (bytes ns : List ℕ) (count : ℕ) → Weighing ns count → Inv bytes ns count count 0 0 0
-begin bytes ns count h =
-    record { same = refl; inside = omega (arith, h.inside); bound = omega (arith, h.few); light = omega (arith, h.few) }
+-- when so many are done
+abbrev pub At : (bytes ns : List ℕ) (count done trees size : ℕ) → Type 0
+At bytes ns count done trees size = Inv bytes ns count (count - done) (4 * done) trees size
 
-module _ (bytes ns : List ℕ) (count left place trees size : ℕ) (v : Inv bytes ns count left place trees size) where
-  module _ (h : 0 < left) where
+pub begin : (bytes ns : List ℕ) (count : ℕ) → Weighing ns count → At bytes ns count 0 0 0
+begin bytes ns count h =
+    let k : count ≡ count - 0 = omega arith in
+    subst (λ (n : ℕ). Inv bytes ns count n 0 0 0) k
+    (record { same = refl; inside = omega (arith, h.inside); bound = omega (arith, h.few); light = omega (arith, h.few) })
+
+module _ (bytes ns : List ℕ) (count done trees size : ℕ) (v : At bytes ns count done trees size) where
+  abbrev left : ℕ
+  left = count - done
+
+  abbrev place : ℕ
+  place = 4 * done
+
+  module _ (o : done < count) where
+    h : 0 < left
+    h = omega arith
+
     pub four : place + 4 ≤ length ns
     four = omega (arith, v.inside)
 
@@ -32,48 +50,46 @@ module _ (bytes ns : List ℕ) (count left place trees size : ℕ) (v : Inv byte
     four-inside = record { inside = four }
 
     module _ (r : Given) (g : GivenAt ns place r) where
-      pub heavy : most < r.size → NoTree ≡ weighed bytes count 0 0 ns
+      pub heavy : most < r.size → None ≡ weighed bytes count 0 0 ns
       heavy l = sym (v.same ∙ weigh_node bytes ns place left trees size h four r g ∙ cc (lt-leb r.size most l))
 
       module _ (l : r.size ≤ most) where
-        pub outside : length bytes < r.start + r.size → NoTree ≡ weighed bytes count 0 0 ns
+        pub outside : length bytes < r.start + r.size → None ≡ weighed bytes count 0 0 ns
         outside m =
             sym (v.same ∙ weigh_node bytes ns place left trees size h four r g ∙ cc (le-leb r.size most l, lt-leb (r.start + r.size) (length bytes) m))
 
-        module _ (m : r.start + r.size ≤ length bytes) (b : Bool) (p : b ≡ can_have r.kind r.arity) where
-          pub never : not b ≡ true → NoTree ≡ weighed bytes count 0 0 ns
-          never q =
+        module _ (m : r.start + r.size ≤ length bytes) (x : Option ℕ) (p : x ≡ stack trees r.kind r.arity) where
+          pub off : x ≡ None → None ≡ weighed bytes count 0 0 ns
+          off q =
+              let t = weighed bytes (left - 1) (trees - r.arity + 1) (size + 5 + r.size) (drop (place + 4) ns) in
               sym
               (v.same ∙ weigh_node bytes ns place left trees size h four r g
-              ∙ cc (le-leb r.size most l, le-leb (r.start + r.size) (length bytes) m, not-true b q))
+              ∙ cc (le-leb r.size most l, le-leb (r.start + r.size) (length bytes) m, stack_off t None trees r.kind r.arity (sym p ∙ q)))
 
-          module _ (q : not b ≡ false) where
-            pub fewer : trees < r.arity → NoTree ≡ weighed bytes count 0 0 ns
-            fewer x =
-                sym
-                (v.same ∙ weigh_node bytes ns place left trees size h four r g
-                ∙ cc (le-leb r.size most l, le-leb (r.start + r.size) (length bytes) m, not-false b q, lt-leb r.arity trees x))
+          pub again : (next : ℕ) → x ≡ Some next → At bytes ns count (done + 1) next (size + 5 + r.size)
+          again next q =
+              let k : left - 1 ≡ count - (done + 1) = omega arith in
+              let w : place + 4 ≡ 4 * (done + 1) = omega arith in
+              let z = stands trees r.kind r.arity next (sym p ∙ q) in
+              subst-two (λ (n f : ℕ). Inv bytes ns count n f next (size + 5 + r.size)) k w
+              (record {
+                same =
+                    v.same ∙ weigh_node bytes ns place left trees size h four r g
+                    ∙ cc (le-leb r.size most l, le-leb (r.start + r.size) (length bytes) m, z.can, le-leb r.arity trees z.few, z.same);
+                inside = omega (arith, v.inside);
+                bound = omega (arith, v.bound, z.same, z.few);
+                light = omega (arith, v.light);
+              })
 
-            pub again : r.arity ≤ trees → Inv bytes ns count (left - 1) (place + 4) (trees - r.arity + 1) (size + 5 + r.size)
-            again x =
-                record {
-                  same =
-                      v.same ∙ weigh_node bytes ns place left trees size h four r g
-                      ∙ cc (le-leb r.size most l, le-leb (r.start + r.size) (length bytes) m, not-false b q, le-leb r.arity trees x);
-                  inside = omega (arith, v.inside);
-                  bound = omega (arith, v.bound);
-                  light = omega (arith, v.light);
-                }
+  module _ (o : count ≤ done) where
+    none : left ≤ 0
+    none = omega arith
 
-  module _ (h : left ≤ 0) where
-    pub one_tree : trees ≡ 1 → Bytes size ≡ weighed bytes count 0 0 ns
-    one_tree e = sym (v.same ∙ weigh_end bytes ns place left trees size h ∙ cc (eq-eqb trees 1 e))
+    pub one_tree : trees ≡ 1 → Some size ≡ weighed bytes count 0 0 ns
+    one_tree e = sym (v.same ∙ weigh_end bytes ns place left trees size none ∙ cc (eq-eqb trees 1 e))
 
-    pub not-one : (trees ≡ 1 → ⊥) → NoTree ≡ weighed bytes count 0 0 ns
-    not-one e = sym (v.same ∙ weigh_end bytes ns place left trees size h ∙ cc (ne_eqb trees 1 e))
+    pub not-one : (trees ≡ 1 → ⊥) → None ≡ weighed bytes count 0 0 ns
+    not-one e = sym (v.same ∙ weigh_end bytes ns place left trees size none ∙ cc (ne_eqb trees 1 e))
 
-abbrev pub invariant-loop-left : goal.invariant-loop-left
-invariant-loop-left l = Inv l.bytes l.nodes l.count l.left l.place l.trees l.size
-
-abbrev pub decreases-loop-left : goal.decreases-loop-left
-decreases-loop-left l = l.left
+abbrev pub invariant-loop-i : goal.invariant-loop-i
+invariant-loop-i l = At l.bytes l.nodes l.count l.i l.trees l.size

@@ -12,7 +12,8 @@ use Rattle.pack.specs.Image.{body}
 use Rattle.pack.specs.Calls.{begins, PackOutcome}
 use Rattle.pack.specs.Passes.{laid, PutNodes, Weighs, Light, PackBegun}
 use Rattle.pack.specs.declared.format.Form.{Form}
-use Rattle.pack.specs.declared.answers.PackAnswer.{PackAnswer}
+use Rattle.pack.specs.Answers.{PackAnswer}
+use Rattle.std.specs.declared.result.Result.TheVariants.{Ok, Err}
 use Rattle.pack.proofs.Images.{body-length}
 use Rattle.pack.proofs.Weights.{weight_light, names_laid}
 use Rattle.pack.proofs.Packs.{begun-refused, begun-packed, begun_roomy, found, counted, pack_written}
@@ -33,10 +34,10 @@ module _ (bytes ns : List ℕ) (count size : ℕ) (w : Weighs bytes ns count siz
     body_is = omega (arith, body-length f nodes, (found bytes ns count size w).size)
 
     module _ (d d' : List ℕ) (r : PackAnswer) (o : PackBegun f count (begins f - 3 + size) d r d') where
-      refused : (q : Fault) → r ≡ PackAnswer.Refused q → PackOutcome f bytes ns count d (PackAnswer.Refused q) d'
+      refused : (q : Fault) → r ≡ Err q → PackOutcome f bytes ns count d (Err q) d'
       refused q x = pack_written bytes ns count size w f (begun-refused f nodes count (begins f - 3 + size) count-is body_is d d' r o q x)
 
-      module _ (l : ℕ) (x : r ≡ PackAnswer.Packed l) (at : ℕ) (e : at ≡ begins f) where
+      module _ (l : ℕ) (x : r ≡ Ok l) (at : ℕ) (e : at ≡ begins f) where
         nodes_asked : PutNodes bytes ns count (length d') at
         nodes_asked =
             let m = begun_roomy f nodes count (begins f - 3 + size) count-is body_is d d' r o l x in
@@ -51,7 +52,7 @@ module _ (bytes ns : List ℕ) (count size : ℕ) (w : Weighs bytes ns count siz
               small = omega (arith, e, m.small);
             }
 
-        packed : (d'' : List ℕ) → d'' ≡ sets d' at (laid bytes count ns) → PackOutcome f bytes ns count d (PackAnswer.Packed l) d''
+        packed : (d'' : List ℕ) → d'' ≡ sets d' at (laid bytes count ns) → PackOutcome f bytes ns count d (Ok l) d''
         packed d'' y =
             pack_written bytes ns count size w f
             (begun-packed f nodes count (begins f - 3 + size) count-is body_is d d' r o l x d''
@@ -59,11 +60,11 @@ module _ (bytes ns : List ℕ) (count size : ℕ) (w : Weighs bytes ns count siz
 
 ruleset ways = (light, refused, nodes_asked, packed, rules)
 
-pub returns-in-Refused : goal.returns-in-Refused
-returns-in-Refused c = search ways
+pub returns-in_err-length : goal.returns-in_err-length
+returns-in_err-length c = search ways
 
-pub returns-in-Packed : goal.returns-in-Packed
-returns-in-Packed c = search ways
+pub returns : goal.returns
+returns c = search ways
 
 pub begin_pack-requires : goal.begin_pack-requires
 begin_pack-requires c = search ways

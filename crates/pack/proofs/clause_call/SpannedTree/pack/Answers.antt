@@ -1,4 +1,4 @@
--- `pack::clause_call::pack_tree` meets its contract. Assumes nothing.
+-- `pack::clause_call::SpannedTree::pack` meets its contract. Assumes nothing.
 use Prim.Native.Nat.{ℕ, ◌+◌, ◌-◌}
 use mathlib.Core.Path.{◌≡◌, ap, ◌∙◌}
 use mathlib.Core.List.{List}
@@ -13,11 +13,12 @@ use Rattle.pack.specs.Calls.{begins, Written}
 use Rattle.pack.specs.Passes.{Light, PackBegun}
 use Rattle.pack.specs.Walk.{Walk, SomeWalk, TreeWeighs, nodes_of, PutTree}
 use Rattle.pack.specs.declared.format.Form.{Form}
-use Rattle.pack.specs.declared.answers.PackAnswer.{PackAnswer}
+use Rattle.pack.specs.Answers.{PackAnswer}
+use Rattle.std.specs.declared.result.Result.TheVariants.{Ok, Err}
 use Rattle.pack.proofs.Images.{body-length}
 use Rattle.pack.proofs.Packs.{begun-refused, begun-packed, begun_roomy}
 use Rattle.pack.proofs.Clauses.{nodes-count, weight_is}
-use Rattle.pack.proofs.clause_call.pack_tree.Goals as goal
+use Rattle.pack.proofs.clause_call.SpannedTree.pack.Goals as goal
 
 module _ (s ms : List ℕ) (count : ℕ) (starts ends : List ℕ) (w : Walk s ms 0 count starts ends) where
   some_walk : SomeWalk ms count starts ends
@@ -38,22 +39,22 @@ module _ (s ms : List ℕ) (count : ℕ) (starts ends : List ℕ) (w : Walk s ms
       body_is = omega (arith, body-length f nodes, t.same, weight_is s starts ends w.source w.lying)
 
       module _ (d d' : List ℕ) (r : PackAnswer) (o : PackBegun f count (begins f - 3 + size) d r d') where
-        refused : (q : Fault) → r ≡ PackAnswer.Refused q → Written f nodes d (PackAnswer.Refused q) d'
+        refused : (q : Fault) → r ≡ Err q → Written f nodes d (Err q) d'
         refused = begun-refused f nodes count (begins f - 3 + size) count-is body_is d d' r o
 
-        module _ (l : ℕ) (x : r ≡ PackAnswer.Packed l) (at : ℕ) (e : at ≡ begins f) where
+        module _ (l : ℕ) (x : r ≡ Ok l) (at : ℕ) (e : at ≡ begins f) where
           tree_asked : PutTree s ms count starts ends (length d') at
           tree_asked =
               let m = begun_roomy f nodes count (begins f - 3 + size) count-is body_is d d' r o l x in
               record { walk = w; fits = omega (arith, e, t.same, m.fits); small = omega (arith, e, t.same, m.small) }
 
-          packed : (d'' : List ℕ) → d'' ≡ sets d' at (nodes_bytes nodes) → Written f nodes d (PackAnswer.Packed l) d''
+          packed : (d'' : List ℕ) → d'' ≡ sets d' at (nodes_bytes nodes) → Written f nodes d (Ok l) d''
           packed d'' y = begun-packed f nodes count (begins f - 3 + size) count-is body_is d d' r o l x d'' (y ∙ ap (λ (k : ℕ). sets d' k (nodes_bytes nodes)) e)
 
 ruleset ways = (some_walk, light, refused, tree_asked, packed, rules)
 
-pub returns-in-Refused : goal.returns-in-Refused
-returns-in-Refused c = search ways
+pub returns-in_err-length : goal.returns-in_err-length
+returns-in_err-length c = search ways
 
-pub returns-in-Packed : goal.returns-in-Packed
-returns-in-Packed c = search ways
+pub returns : goal.returns
+returns c = search ways

@@ -1,7 +1,7 @@
--- `pack::clause_call::put_tree` meets its contract. The invariant: what is to be stored from the start is what is to be stored from here.
+-- `pack::clause_call::SpannedTree::put` meets its contract. The invariant: what is to be stored from the start is what is to be stored from here.
 -- Assumes nothing.
-use Prim.Native.Nat.{ℕ, ◌+◌, ◌-◌, ◌<◌, ◌≤◌}
-use mathlib.Core.Path.{◌≡◌, refl, sym, ◌∙◌, ap}
+use Prim.Native.Nat.{ℕ, ◌+◌, ◌-◌, ◌*◌, ◌<◌, ◌≤◌}
+use mathlib.Core.Path.{◌≡◌, refl, sym, ◌∙◌, ap, subst}
 use mathlib.Core.List.{List}
 use native.Mathlib.Omega.{arith}
 use mir.Syntax.{w64}
@@ -13,10 +13,10 @@ use Rattle.pack.specs.Image.{node_bytes, nodes_bytes}
 use Rattle.pack.specs.Passes.{PutNode}
 use Rattle.pack.specs.Walk.{NodeAt, GivenNode, Walk, weight, nodes_of, PutTree}
 use Rattle.pack.specs.declared.nodes.Given.{Given}
-use Rattle.pack.proofs.Basics.{sets_append, part_length}
+use Rattle.pack.proofs.Basics.{sets_append, part_length, subst-two}
 use Rattle.pack.proofs.Scans.{node_length}
 use Rattle.pack.proofs.Clauses as K
-use Rattle.pack.proofs.clause_call.put_tree.Given as goal
+use Rattle.pack.proofs.clause_call.SpannedTree.put.Given as goal
 
 pub record Inv (s ms : List ℕ) (count : ℕ) (starts ends d₀ : List ℕ) (from : ℕ) (d : List ℕ) (left at place : ℕ) : Type 0 where
   pub same : sets d₀ from (nodes_bytes (nodes_of s starts ends count ms)) ≡ sets d place (nodes_bytes (nodes_of s starts ends left (drop at ms)))
@@ -25,16 +25,34 @@ pub record Inv (s ms : List ℕ) (count : ℕ) (starts ends d₀ : List ℕ) (fr
   pub small : place + weight starts ends left (drop at ms) ≤ most + 3
   pub long : length d ≡ length d₀
 
+-- when so many are done
+abbrev pub At : (s ms : List ℕ) (count : ℕ) (starts ends d₀ : List ℕ) (from : ℕ) (d : List ℕ) (done place : ℕ) → Type 0
+At s ms count starts ends d₀ from d done place = Inv s ms count starts ends d₀ from d (count - done) (2 * done) place
+
 module _ (s ms : List ℕ) (count : ℕ) (starts ends : List ℕ) where
-  pub begin : (d : List ℕ) (from : ℕ) → PutTree s ms count starts ends (length d) from → Inv s ms count starts ends d from d count 0 from
-  begin d from h = record { same = refl; walk = h.walk; fits = h.fits; small = h.small; long = refl }
+  pub begin : (d : List ℕ) (from : ℕ) → PutTree s ms count starts ends (length d) from → At s ms count starts ends d from d 0 from
+  begin d from h =
+      let k : count ≡ count - 0 = omega arith in
+      subst (λ (n : ℕ). Inv s ms count starts ends d from d n 0 from) k
+      (record { same = refl; walk = h.walk; fits = h.fits; small = h.small; long = refl })
 
-  module _ (d₀ : List ℕ) (from : ℕ) (d : List ℕ) (left at place : ℕ) (v : Inv s ms count starts ends d₀ from d left at place) where
-    pub ended : left ≤ 0 → d ≡ sets d₀ from (nodes_bytes (nodes_of s starts ends count ms))
+  module _ (d₀ : List ℕ) (from : ℕ) (d : List ℕ) (done place : ℕ) (v : At s ms count starts ends d₀ from d done place) where
+    abbrev left : ℕ
+    left = count - done
+
+    abbrev at : ℕ
+    at = 2 * done
+
+    pub ended : count ≤ done → d ≡ sets d₀ from (nodes_bytes (nodes_of s starts ends count ms))
     unfolding nodes_bytes
-    ended h = sym (v.same ∙ ap (λ (l : List Node). sets d place (nodes_bytes l)) (K.nodes_end s ms at left starts ends v.walk h))
+    ended o =
+        let h : left ≤ 0 = omega arith in
+        sym (v.same ∙ ap (λ (l : List Node). sets d place (nodes_bytes l)) (K.nodes_end s ms at left starts ends v.walk h))
 
-    module _ (h : 0 < left) where
+    module _ (o : done < count) where
+      h : 0 < left
+      h = omega arith
+
       pub node_at : NodeAt ms at starts ends
       node_at = K.node_at s ms at left starts ends v.walk h
 
@@ -65,13 +83,16 @@ module _ (s ms : List ℕ) (count : ℕ) (starts ends : List ℕ) where
           next-length : length d' ≡ length d
           next-length = ap length e ∙ length-sets d place (node_bytes (a_node r.kind r.arity (take r.size (drop r.start s))))
 
-          pub again : Inv s ms count starts ends d₀ from d' (left - 1) (at + 2) (place + 5 + r.size)
+          pub again : At s ms count starts ends d₀ from d' (done + 1) (place + 5 + r.size)
           unfolding nodes_bytes
           again =
               let n = a_node r.kind r.arity (take r.size (drop r.start s)) in
               let x = nodes_bytes (nodes_of s starts ends (left - 1) (drop (at + 2) ms)) in
               let l : place + length (node_bytes n) ≡ place + 5 + r.size = omega (arith, node_length n, part_length r.start r.size s inside) in
-              record {
+              let e1 : left - 1 ≡ count - (done + 1) = omega arith in
+              let e2 : at + 2 ≡ 2 * (done + 1) = omega arith in
+              subst-two (λ (m f : ℕ). Inv s ms count starts ends d₀ from d' m f (place + 5 + r.size)) e1 e2
+              (record {
                 same =
                     v.same ∙ ap (λ (k : List Node). sets d place (nodes_bytes k)) (K.nodes_node s ms at left starts ends v.walk h r g)
                     ∙ sets_append d place (place + 5 + r.size) (node_bytes n) x l
@@ -80,10 +101,7 @@ module _ (s ms : List ℕ) (count : ℕ) (starts ends : List ℕ) where
                 fits = omega (arith, v.fits, on, next-length);
                 small = omega (arith, v.small, on);
                 long = next-length ∙ v.long;
-              }
+              })
 
-abbrev pub invariant-loop-left : goal.invariant-loop-left
-invariant-loop-left l = Inv l.text l.tree l.count l.starts l.ends l.initial.out l.from l.out l.left l.at l.place
-
-abbrev pub decreases-loop-left : goal.decreases-loop-left
-decreases-loop-left l = l.left
+abbrev pub invariant-loop-i : goal.invariant-loop-i
+invariant-loop-i l = At l.text l.self.tree.now l.self.count l.self.starts.now l.self.ends.now l.initial.out l.from l.out l.i l.place

@@ -1,4 +1,4 @@
--- `pack::format::first_node` meets its contract. Assumes nothing.
+-- `pack::format::Form::first_node` meets its contract. Assumes nothing.
 use Prim.Native.Nat.{ℕ}
 use mathlib.Core.Path.{◌≡◌, ap, sym}
 use borrow.Author.Rules.{rules}
@@ -6,7 +6,7 @@ use Rattle.pack.specs.Image.{line_bytes}
 use Rattle.pack.specs.Calls.{begins}
 use Rattle.pack.specs.declared.format.Form.{Form}
 use Rattle.pack.specs.declared.format.Form.TheVariants.{One, Two}
-use Rattle.pack.proofs.format.first_node.Goals as goal
+use Rattle.pack.proofs.format.Form.first_node.Goals as goal
 
 first : (f : Form) → f ≡ One → 5 ≡ begins f
 unfolding line_bytes
