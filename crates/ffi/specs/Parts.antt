@@ -5,13 +5,14 @@ use Rattle.std.proofs.lemmas.List.Edits.{sets}
 use Rattle.lexer.specs.Text as Text
 use Rattle.lexer.specs.declared.cursor.Cursor.{Cursor}
 use Rattle.reader.specs.LineCall as LineCall
-use Rattle.reader.specs.declared.line_call.LineAnswer.{LineAnswer}
+use Rattle.reader.specs.LineCall.{LineAnswer}
+use Rattle.std.specs.declared.result.Result.TheVariants.{Ok, Err}
 use Rattle.fields.specs.Fields.{Outcome, leaves, count_fields, refused_fields, answer_text_leaves, Left}
 
 -- a listed clause: 0, the cursor behind it and the count of the line's bytes; or the refusal's number, and its offset
 abbrev pub line_leaves : LineAnswer → List ℕ → Outcome
-line_leaves (LineAnswer.Read n c) d = leaves 0 (sets d 0 (count_fields n c))
-line_leaves (LineAnswer.Refused w c) d = refused_fields w d
+line_leaves (Ok p) d = leaves 0 (sets d 0 (count_fields p.length p.next))
+line_leaves (Err r) d = refused_fields r.fault d
 
 -- ---- the calls that write to a lent slice too
 

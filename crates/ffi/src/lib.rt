@@ -5,25 +5,14 @@
 
 ghost use Rattle.std.specs.Prelude.{◌≡◌};
 ghost use Rattle.lexer.specs.Text.{next_token_text};
-ghost use Rattle.fields.specs.Fields.{cursor_at, leaves};
-ghost use Rattle.ffi.specs.Parts.{left, text_leaves, line_leaves, LineLeft};
+ghost use Rattle.fields.specs.Fields.{cursor_at};
+ghost use Rattle.ffi.specs.Parts.{left, text_leaves, LineLeft};
 
-use fields::{READ, put_count, put_fault, put_text};
-use lexer::{Cursor, next_token_text};
-use reader::{LineAnswer, list_clause};
+use fields::{cursor_at, put_counted, put_text};
+use lexer::next_token_text;
+use reader::list_clause;
 
-fn put_line(answer: LineAnswer, fields: &mut [u64; 5]) -> u32
-    ensures { leaves result fields.new ≡ line_leaves answer fields.old }
-{
-    match answer {
-        LineAnswer::Refused { fault, cursor: _ } => put_fault(fault, fields),
-        LineAnswer::Read { length, next } => {
-            put_count(length, next, fields);
-            READ
-        }
-    }
-}
-
+// C calls each by its name, with numbers for the cursor: however alike they are, they stay apart.
 #[unsafe(no_mangle)]
 pub extern "C" fn thrinvage_next_token_text(
     text: &[u8],
@@ -36,15 +25,7 @@ pub extern "C" fn thrinvage_next_token_text(
     ensures { left result scratch.new token.new ≡ text_leaves (next_token_text text.now (cursor_at offset line column) scratch.old) token.old }
 {
     put_text(
-        next_token_text(
-            text,
-            Cursor {
-                offset,
-                line,
-                column,
-            },
-            scratch,
-        ),
+        next_token_text(text, cursor_at(offset, line, column), scratch),
         token,
     )
 }
@@ -60,16 +41,6 @@ pub extern "C" fn thrinvage_list_clause(
 ) -> u32
     ensures { LineLeft text.now (cursor_at offset line column) out.old out.new clause.old clause.new result }
 {
-    put_line(
-        list_clause(
-            text,
-            Cursor {
-                offset,
-                line,
-                column,
-            },
-            out,
-        ),
-        clause,
-    )
+    let answer = list_clause(text, cursor_at(offset, line, column), out);
+    put_counted(answer.map(|read| (read.length, read.next)), clause)
 }

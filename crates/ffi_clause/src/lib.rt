@@ -2,25 +2,11 @@
 // tokenizer is inlined into the loop over a clause's tokens.
 #![tactic(auto)]
 
-ghost use Rattle.std.specs.Prelude.{◌≡◌};
-ghost use Rattle.fields.specs.Fields.{cursor_at, leaves};
-ghost use Rattle.ffi_clause.specs.Clauses.{clause_leaves, ClauseLeft};
+ghost use Rattle.fields.specs.Fields.{cursor_at};
+ghost use Rattle.ffi_clause.specs.Clauses.{ClauseLeft};
 
-use fields::{READ, put_count, put_fault};
-use lexer::Cursor;
-use reader::{ClauseAnswer, read_clause};
-
-fn put_clause(answer: ClauseAnswer, fields: &mut [u64; 5]) -> u32
-    ensures { leaves result fields.new ≡ clause_leaves answer fields.old }
-{
-    match answer {
-        ClauseAnswer::Refused { fault, cursor: _ } => put_fault(fault, fields),
-        ClauseAnswer::Read { nodes, next } => {
-            put_count(nodes, next, fields);
-            READ
-        }
-    }
-}
+use fields::{cursor_at, put_counted};
+use reader::read_clause;
 
 #[unsafe(no_mangle)]
 pub extern "C" fn thrinvage_read_clause(
@@ -33,16 +19,6 @@ pub extern "C" fn thrinvage_read_clause(
 ) -> u32
     ensures { ClauseLeft text.now (cursor_at offset line column) tree.old tree.new clause.old clause.new result }
 {
-    put_clause(
-        read_clause(
-            text,
-            Cursor {
-                offset,
-                line,
-                column,
-            },
-            tree,
-        ),
-        clause,
-    )
+    let answer = read_clause(text, cursor_at(offset, line, column), tree);
+    put_counted(answer.map(|read| (read.nodes, read.next)), clause)
 }

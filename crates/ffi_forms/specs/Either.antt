@@ -6,9 +6,10 @@ use Rattle.pack.specs.Image.{version, line}
 use Rattle.pack.specs.Calls.{EitherOutcome}
 use Rattle.pack.specs.Moves.{MoveUp, MoveDown}
 use Rattle.pack.specs.declared.format.Form.{Form}
-use Rattle.pack.specs.declared.answers.UnpackAnswer.{UnpackAnswer}
 use Rattle.fields.specs.Fields.{Outcome, leaves, Left}
 use Rattle.fields_pack.specs.Told.{unnumbered, pack_leaves}
+use Rattle.pack.specs.Answers.{UnpackAnswer}
+use Rattle.std.specs.declared.result.Result.TheVariants.{Ok, Err}
 
 -- what struct thrinvage_unpacked begins with: the form's number, and its line
 abbrev pub form_fields : Form → List ℕ
@@ -16,8 +17,8 @@ form_fields f = version f ∷ line f ∷ []
 
 -- an unpacked image of either form: these, and the count of its nodes
 abbrev pub either_leaves : UnpackAnswer → List ℕ → Outcome
-either_leaves (UnpackAnswer.Nodes f n) d = leaves 0 (sets d 0 (form_fields f ++ n ∷ []))
-either_leaves (UnpackAnswer.Refused w) d = unnumbered w d
+either_leaves (Ok u) d = leaves 0 (sets d 0 (form_fields u.form ++ u.count ∷ []))
+either_leaves (Err w) d = unnumbered w d
 
 -- ---- each function: the lent slice d is left as x, the fields or the number f as g, and r is returned. Two that are permitted coincide (proofs/Theorems)
 

@@ -3,49 +3,36 @@
 #![tactic(auto)]
 
 ghost use Rattle.std.specs.Prelude.{◌≡◌};
-ghost use Rattle.std.proofs.lemmas.List.Edits.{sets};
 ghost use Rattle.fields.specs.Fields.{cursor_at, leaves};
 ghost use Rattle.fields_pack.specs.Told.{ClausePackLeft, PackNodesLeft};
 ghost use Rattle.pack.specs.declared.format.Form.TheVariants.{Two};
 ghost use Rattle.pack.specs.declared.format.Version.{Version};
 ghost use Rattle.ffi_forms.specs.Either.{form_fields, either_leaves, EitherLeft, MoveUpLeft, MoveDownLeft};
 
-use fields::{READ, fault_number};
+use fields::{READ, cursor_at, fault_number};
 use fields_pack::{put_clause_pack, put_pack};
-use lexer::Cursor;
-use pack::{
-    Form, UnpackAnswer, Version, move_down, move_up, pack_clause, pack_nodes, unpack_either,
-};
+use lexer::Fault;
+use pack::{Form, Unpacked, Version, move_down, move_up, pack_clause, pack_nodes, unpack_either};
 
-// What is told of an image of either form, in the order of the header's struct.
-const FORM: usize = 0;
-
-const LINE: usize = 1;
-
+// Where the header's struct has the count of nodes, behind the form's number and its line.
 const COUNT: usize = 2;
 
-fn put_form(form: Form, told: &mut [u64; 3])
-    ensures { told.new ≡ sets told.old 0 (form_fields form) }
+fn form_fields(form: Form) -> [u64; 2]
+    ensures { result ≡ form_fields form }
 {
     match form {
-        Form::One => {
-            told[FORM] = 1;
-            told[LINE] = 0;
-        }
-        Form::Two(line) => {
-            told[FORM] = 2;
-            told[LINE] = line as u64;
-        }
+        Form::One => [1, 0],
+        Form::Two(line) => [2, line as u64],
     }
 }
 
-fn put_either(answer: UnpackAnswer, told: &mut [u64; 3]) -> u32
+fn put_either(answer: Result<Unpacked, Fault>, told: &mut [u64; 3]) -> u32
     ensures { leaves result told.new ≡ either_leaves answer told.old }
 {
     match answer {
-        UnpackAnswer::Refused(fault) => fault_number(fault),
-        UnpackAnswer::Nodes { form, count } => {
-            put_form(form, told);
+        Err(fault) => fault_number(fault),
+        Ok(Unpacked { form, count }) => {
+            told[..COUNT].copy_from_slice(&form_fields(form));
             told[COUNT] = count as u64;
             READ
         }
@@ -64,20 +51,12 @@ pub extern "C" fn thrinvage_pack_clause_form_2(
     ensures { ClausePackLeft Version.Two text.now (cursor_at offset line column) out.old out.new clause.old clause.new result }
 {
     put_clause_pack(
-        pack_clause(
-            text,
-            Cursor {
-                offset,
-                line,
-                column,
-            },
-            Version::Two,
-            out,
-        ),
+        pack_clause(text, cursor_at(offset, line, column), Version::Two, out),
         clause,
     )
 }
 
+// The count stands beside the nodes in the C interface.
 #[unsafe(no_mangle)]
 pub extern "C" fn thrinvage_pack_nodes_form_2(
     bytes: &[u8],

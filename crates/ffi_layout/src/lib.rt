@@ -5,8 +5,8 @@ ghost use Rattle.std.specs.Prelude.{◌≡◌};
 ghost use Rattle.lexer.specs.LayoutCall.{next_layout};
 ghost use Rattle.fields.specs.Fields.{cursor_at, leaves, layout_leaves};
 
-use fields::put_layout;
-use lexer::{Cursor, next_layout};
+use fields::{cursor_at, put_layout};
+use lexer::next_layout;
 
 #[unsafe(no_mangle)]
 pub extern "C" fn thrinvage_next_layout(
@@ -18,15 +18,5 @@ pub extern "C" fn thrinvage_next_layout(
 ) -> u32
     ensures { leaves result layout.new ≡ layout_leaves (next_layout text.now (cursor_at offset line column)) layout.old }
 {
-    put_layout(
-        next_layout(
-            text,
-            Cursor {
-                offset,
-                line,
-                column,
-            },
-        ),
-        layout,
-    )
+    put_layout(next_layout(text, cursor_at(offset, line, column)), layout)
 }

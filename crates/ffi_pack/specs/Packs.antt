@@ -2,14 +2,15 @@
 -- `crates/fields_pack/specs` says it. Definitions only.
 use Rattle.std.specs.Prelude.{ℕ, List}
 use Rattle.pack.specs.Calls.{UnpackOutcome}
-use Rattle.pack.specs.declared.answers.UnpackAnswer.{UnpackAnswer}
 use Rattle.fields.specs.Fields.{Outcome, Left}
 use Rattle.fields_pack.specs.Told.{numbered, unnumbered}
+use Rattle.pack.specs.Answers.{UnpackAnswer}
+use Rattle.std.specs.declared.result.Result.TheVariants.{Ok, Err}
 
 -- an unpacked image of form 1: the count of its nodes
 abbrev pub unpack_leaves : UnpackAnswer → List ℕ → Outcome
-unpack_leaves (UnpackAnswer.Nodes f n) d = numbered n d
-unpack_leaves (UnpackAnswer.Refused w) d = unnumbered w d
+unpack_leaves (Ok u) d = numbered u.count d
+unpack_leaves (Err w) d = unnumbered w d
 
 -- the image i, unpacked into d: d is left as x, the number f as g, and r is returned. Two that are permitted coincide (proofs/Theorems)
 abbrev pub UnpackLeft : (i d x f g : List ℕ) → ℕ → Type 0

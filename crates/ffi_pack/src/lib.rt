@@ -2,26 +2,15 @@
 // not link them, and one that speaks form 1 alone links nothing of form 2, which is in `ffi_forms`.
 #![tactic(auto)]
 
-ghost use Rattle.std.specs.Prelude.{◌≡◌};
-ghost use Rattle.fields.specs.Fields.{cursor_at, leaves};
+ghost use Rattle.fields.specs.Fields.{cursor_at};
 ghost use Rattle.fields_pack.specs.Told.{ClausePackLeft, PackNodesLeft};
 ghost use Rattle.pack.specs.declared.format.Form.TheVariants.{One};
 ghost use Rattle.pack.specs.declared.format.Version.{Version};
-ghost use Rattle.ffi_pack.specs.Packs.{unpack_leaves, UnpackLeft};
+ghost use Rattle.ffi_pack.specs.Packs.{UnpackLeft};
 
-use fields::fault_number;
-use fields_pack::{put_clause_pack, put_number, put_pack};
-use lexer::Cursor;
-use pack::{Form, UnpackAnswer, Version, pack_clause, pack_nodes, unpack};
-
-fn put_unpack(answer: UnpackAnswer, told: &mut [u64; 1]) -> u32
-    ensures { leaves result told.new ≡ unpack_leaves answer told.old }
-{
-    match answer {
-        UnpackAnswer::Refused(fault) => fault_number(fault),
-        UnpackAnswer::Nodes { form: _, count } => put_number(count, told),
-    }
-}
+use fields::cursor_at;
+use fields_pack::{put_clause_pack, put_pack};
+use pack::{Form, Version, pack_clause, pack_nodes, unpack};
 
 #[unsafe(no_mangle)]
 pub extern "C" fn thrinvage_pack_clause(
@@ -35,20 +24,12 @@ pub extern "C" fn thrinvage_pack_clause(
     ensures { ClausePackLeft Version.One text.now (cursor_at offset line column) out.old out.new clause.old clause.new result }
 {
     put_clause_pack(
-        pack_clause(
-            text,
-            Cursor {
-                offset,
-                line,
-                column,
-            },
-            Version::One,
-            out,
-        ),
+        pack_clause(text, cursor_at(offset, line, column), Version::One, out),
         clause,
     )
 }
 
+// The count stands beside the nodes in the C interface.
 #[unsafe(no_mangle)]
 pub extern "C" fn thrinvage_pack_nodes(
     bytes: &[u8],
@@ -66,5 +47,5 @@ pub extern "C" fn thrinvage_pack_nodes(
 pub extern "C" fn thrinvage_unpack(image: &[u8], nodes: &mut [u32], count: &mut [u64; 1]) -> u32
     ensures { UnpackLeft image.now nodes.old nodes.new count.old count.new result }
 {
-    put_unpack(unpack(image, nodes), count)
+    put_pack(unpack(image, nodes).map(|unpacked| unpacked.count), count)
 }

@@ -6,8 +6,8 @@ ghost use Rattle.std.specs.Prelude.{◌≡◌};
 ghost use Rattle.lexer.specs.Token.{next_token};
 ghost use Rattle.fields.specs.Fields.{cursor_at, leaves, source_of, answer_leaves};
 
-use fields::{put_answer, source_of};
-use lexer::{Cursor, next_token};
+use fields::{cursor_at, put_answer, source_of};
+use lexer::next_token;
 
 // The source comes last: so the token has its place among the arguments that processors hand over in registers.
 #[unsafe(no_mangle)]
@@ -22,15 +22,7 @@ pub extern "C" fn thrinvage_next_token(
     ensures { leaves result token.new ≡ answer_leaves (next_token (source_of source) text.now (cursor_at offset line column)) token.old }
 {
     put_answer(
-        next_token(
-            text,
-            Cursor {
-                offset,
-                line,
-                column,
-            },
-            source_of(source),
-        ),
+        next_token(text, cursor_at(offset, line, column), source_of(source)),
         token,
     )
 }

@@ -2,9 +2,9 @@
 use Prim.Native.Nat.{ℕ}
 use mathlib.Core.Path.{◌≡◌, sym, ◌∙◌, ap}
 use mathlib.Core.List.{List}
-use Rattle.lexer.specs.declared.layout_call.LayoutAnswer.{LayoutAnswer}
-use Rattle.lexer.specs.declared.token.Answer.{Answer}
 use Rattle.fields.specs.Fields.{Outcome, leaves, answer_leaves, layout_leaves, Left}
+use Rattle.lexer.specs.Token.{Answer}
+use Rattle.lexer.specs.LayoutCall.{LayoutAnswer}
 
 -- one number and one content of the fields
 pub same : (r r' : ℕ) (g g' : List ℕ) → leaves r g ≡ leaves r' g' → (r ≡ r') × (g ≡ g')

@@ -1,6 +1,7 @@
 -- The C interface: what a function returns, and what it leaves in the lent fields, from what was read or the refusal. The fields and their
 -- numbers are those of `include/thrinvage.h`. Definitions only.
 use Rattle.std.specs.Prelude.{ℕ, ◌≤◌, ◌≡◌, cond, List, [], ◌∷◌, ◌++◌, eqb, Float, length, set}
+use Rattle.std.specs.declared.result.Result.{Result}
 use Rattle.std.specs.Float.Ieee.{eq, to_bits}
 use Rattle.std.specs.Float.{binary64}
 use Rattle.std.proofs.lemmas.List.Edits.{sets}
@@ -10,17 +11,20 @@ use Rattle.lexer.specs.declared.kind.Kind.{Kind}
 use Rattle.lexer.specs.declared.kind.Kind.TheVariants.{Name, Variable, String, Number, Open, OpenCT, Close, OpenList, CloseList, OpenCurly, CloseCurly, HeadTailSeparator, DoubleBar, Comma, End}
 use Rattle.lexer.specs.declared.kind.Value.{Value}
 use Rattle.lexer.specs.declared.kind.Value.TheVariants.{Integer, Float as Double, Nothing}
-use Rattle.lexer.specs.declared.layout_call.LayoutAnswer.{LayoutAnswer}
 use Rattle.lexer.specs.declared.layout_call.LayoutKind.{LayoutKind}
 use Rattle.lexer.specs.declared.layout_call.LayoutKind.TheVariants.{Blanks, SingleLine, Bracketed}
 use Rattle.lexer.specs.declared.refusal.Fault.{Fault}
+use Rattle.lexer.specs.declared.refusal.Refused.{Refused}
 use Rattle.lexer.specs.declared.text.Part.{Part}
 use Rattle.lexer.specs.declared.text.Part.TheVariants.{Source, Scratch}
-use Rattle.lexer.specs.declared.text.TextAnswer.{TextAnswer}
-use Rattle.lexer.specs.declared.token.Answer.{Answer}
 use Rattle.lexer.specs.declared.token.Source as lexer
 use Rattle.lexer.specs.declared.token.Source.TheVariants.{File, Field}
 use Rattle.lexer.specs.declared.token.Token.{Token}
+use Rattle.lexer.specs.declared.layout_call.LayoutRead.{LayoutRead}
+use Rattle.std.specs.declared.result.Result.TheVariants.{Ok, Err}
+use Rattle.lexer.specs.Token.{Answer}
+use Rattle.lexer.specs.Text.{TextAnswer}
+use Rattle.lexer.specs.LayoutCall.{LayoutAnswer}
 
 -- a cursor, from its numbers
 abbrev pub cursor_at : ℕ → ℕ → ℕ → Cursor
@@ -106,19 +110,24 @@ count_fields n c = cursor_fields c ++ n ∷ []
 abbrev pub refused_fields : Fault → List ℕ → Outcome
 refused_fields w d = leaves (number_of w.refusal) (set d 3 w.offset)
 
+-- what was counted of a clause, and the cursor behind it
+abbrev pub counted_leaves : Result (ℕ × Cursor) Refused → List ℕ → Outcome
+counted_leaves (Ok p) d = leaves 0 (sets d 0 (count_fields p.0 p.1))
+counted_leaves (Err r) d = refused_fields r.fault d
+
 unfoldable pub answer_leaves : Answer → List ℕ → Outcome
-answer_leaves (Answer.Read t c) d = leaves 0 (sets d 0 (token_fields t c))
-answer_leaves (Answer.Refused w c) d = refused_fields w d
+answer_leaves (Ok p) d = leaves 0 (sets d 0 (token_fields p.token p.next))
+answer_leaves (Err p) d = refused_fields p.fault d
 
 unfoldable pub answer_text_leaves : TextAnswer → List ℕ → Outcome
-answer_text_leaves (TextAnswer.Read t c p) d = leaves 0 (sets (sets d 0 (token_fields t c)) 9 (part_fields p))
-answer_text_leaves (TextAnswer.Refused w c) d = refused_fields w d
+answer_text_leaves (Ok q) d = leaves 0 (sets (sets d 0 (token_fields q.token q.next)) 9 (part_fields q.part))
+answer_text_leaves (Err p) d = refused_fields p.fault d
 
 -- where no layout text is, an empty one of kind 0 is, at the caller's cursor
 unfoldable pub layout_leaves : LayoutAnswer → List ℕ → Outcome
-layout_leaves (LayoutAnswer.Read k a c) d = leaves 0 (sets d 0 (layout_fields (layout_number k) a c))
-layout_leaves (LayoutAnswer.Absent c) d = leaves 0 (sets d 0 (layout_fields 0 c.offset c))
-layout_leaves (LayoutAnswer.Refused w c) d = refused_fields w d
+layout_leaves (Ok (LayoutRead.Text k a c)) d = leaves 0 (sets d 0 (layout_fields (layout_number k) a c))
+layout_leaves (Ok (LayoutRead.Absent c)) d = leaves 0 (sets d 0 (layout_fields 0 c.offset c))
+layout_leaves (Err p) d = refused_fields p.fault d
 
 -- ---- a function that lends a slice to a call: the slice is left as x, the fields f as g, and r is returned, if the call may answer so and leave x, and r and g
 -- tell this answer. Where two that the call permits coincide, so do two that are left (proofs/Theorems)

@@ -6,38 +6,21 @@
 ghost use Rattle.std.specs.Prelude.{◌≡◌};
 ghost use Rattle.std.proofs.lemmas.List.Edits.{sets};
 ghost use Rattle.lexer.specs.Refusal.{number_of};
-ghost use Rattle.fields.specs.Fields.{leaves, source_of, kind_number, value_kind, value_bits, bits_of, refused_fields, cursor_fields, kind_fields, token_fields, part_fields, count_fields, layout_number, layout_fields, answer_leaves, answer_text_leaves, layout_leaves, Room};
+ghost use Rattle.fields.specs.Fields.{cursor_at, leaves, source_of, kind_number, value_kind, value_bits, bits_of, refused_fields, cursor_fields, kind_fields, token_fields, part_fields, count_fields, counted_leaves, layout_number, layout_fields, answer_leaves, answer_text_leaves, layout_leaves, Room};
 
 use lexer::{
-    Answer, Cursor, Fault, Kind, LayoutAnswer, LayoutKind, Part, Source, TextAnswer, Token, Value,
-    refusal_number,
+    Cursor, Fault, LayoutKind, LayoutRead, Part, Refused, Source, TextRead, Token, TokenRead,
+    Value, refusal_number,
 };
 
-const OFFSET: usize = 0;
-
-const LINE: usize = 1;
-
-const COLUMN: usize = 2;
-
+// Where each struct of the C interface has the offset of a refusal.
 const REFUSED_AT: usize = 3;
 
+// What a struct has behind the cursor. Of a layout text: its kind and its start. Of a clause: the nodes of its tree, or the bytes of its line.
 const KIND: usize = 4;
 
 const START: usize = 5;
 
-const VALUE_KIND: usize = 6;
-
-const VALUE: usize = 7;
-
-const LAYOUT: usize = 8;
-
-const PART: usize = 9;
-
-const PART_START: usize = 10;
-
-const PART_END: usize = 11;
-
-// Of a clause: the nodes of its tree, or the bytes of its line.
 const COUNT: usize = 4;
 
 // The kind of a layout text that is not there.
@@ -49,7 +32,8 @@ pub const READ: u32 = 0;
 // The number of a field.
 const FIELD: u32 = 1;
 
-// What a text is, by its number. Every other than a field's is a file's: the stricter rule.
+// What a text is, by its number. Every other than a field's is a file's: the stricter rule. A function and no `From`: neither type is this crate's, and such an
+// impl is refused.
 pub fn source_of(number: u32) -> Source
     ensures { result ≡ source_of number }
 {
@@ -60,26 +44,14 @@ pub fn source_of(number: u32) -> Source
     }
 }
 
-// The number of a token's kind.
-fn kind_number(kind: Kind) -> u64
-    ensures { result ≡ kind_number kind }
+// A cursor, by its numbers: C has no other form of it.
+pub fn cursor_at(offset: usize, line: usize, column: usize) -> Cursor
+    ensures { result ≡ cursor_at offset line column }
 {
-    match kind {
-        Kind::Name => 0,
-        Kind::Variable => 1,
-        Kind::String => 2,
-        Kind::Number => 3,
-        Kind::Open => 4,
-        Kind::OpenCT => 5,
-        Kind::Close => 6,
-        Kind::OpenList => 7,
-        Kind::CloseList => 8,
-        Kind::OpenCurly => 9,
-        Kind::CloseCurly => 10,
-        Kind::HeadTailSeparator => 11,
-        Kind::DoubleBar => 12,
-        Kind::Comma => 13,
-        Kind::End => 14,
+    Cursor {
+        offset,
+        line,
+        column,
     }
 }
 
@@ -87,12 +59,10 @@ fn kind_number(kind: Kind) -> u64
 fn bits_of(x: f64) -> u64
     ensures { result ≡ bits_of x }
 {
-    if x == x {
-        return f64::to_bits(x);
-    }
-    0
+    if x.is_nan() { 0 } else { x.to_bits() }
 }
 
+// The number of a value's kind, which C reads. A match: variants that hold something have no number of their own.
 fn value_kind(value: Value) -> u64
     ensures { result ≡ value_kind value }
 {
@@ -103,6 +73,7 @@ fn value_kind(value: Value) -> u64
     }
 }
 
+// The value, which C reads as one number whatever its kind; 0 where there is none.
 fn value_bits(value: Value) -> u64
     ensures { result ≡ value_bits value }
 {
@@ -113,12 +84,11 @@ fn value_bits(value: Value) -> u64
     }
 }
 
-// A refusal's number, as it is returned.
+// A refusal's number, as it is returned: C gets a number where Rust gets an enum.
 pub fn fault_number(fault: Fault) -> u32
     ensures { result ≡ number_of fault.refusal }
 {
-    let refusal = fault.refusal;
-    refusal_number(refusal) as u32
+    refusal_number(fault.refusal) as u32
 }
 
 // A refusal: its offset is put down, and its number handed back.
@@ -130,80 +100,64 @@ fn put_refused(fault: Fault, fields: &mut [u64]) -> u32
     fault_number(fault)
 }
 
-// The cursor behind what was read.
-fn put_cursor(next: Cursor, fields: &mut [u64])
-    requires { Room 5 fields.old }
-    ensures { fields.new ≡ sets fields.old 0 (cursor_fields next) }
+// The cursor behind what was read, and no refusal.
+fn cursor_fields(next: Cursor) -> [u64; 4]
+    ensures { result ≡ cursor_fields next }
 {
-    fields[OFFSET] = next.offset as u64;
-    fields[LINE] = next.line as u64;
-    fields[COLUMN] = next.column as u64;
-    fields[REFUSED_AT] = 0;
+    [next.offset as u64, next.line as u64, next.column as u64, 0]
 }
 
-// A token's kind, its start, its value and where the layout before it began.
-fn put_kind(token: Token, fields: &mut [u64])
-    requires { Room 9 fields.old }
-    ensures { fields.new ≡ sets fields.old 4 (kind_fields token) }
+// A token's kind, its start, its value and where the layout before it began. A kind's number is its place in the enum.
+fn kind_fields(token: Token) -> [u64; 5]
+    ensures { result ≡ kind_fields token }
 {
-    let kind = token.kind;
-    let value = token.value;
-    let number = kind_number(kind);
-    let held = value_kind(value);
-    let bits = value_bits(value);
-    fields[KIND] = number;
-    fields[START] = token.start as u64;
-    fields[VALUE_KIND] = held;
-    fields[VALUE] = bits;
-    fields[LAYOUT] = token.layout as u64;
+    [
+        token.kind as u64,
+        token.start as u64,
+        value_kind(token.value),
+        value_bits(token.value),
+        token.layout as u64,
+    ]
 }
 
 fn put_token(token: Token, next: Cursor, fields: &mut [u64])
     requires { Room 9 fields.old }
     ensures { fields.new ≡ sets fields.old 0 (token_fields token next) }
 {
-    put_cursor(next, fields);
-    put_kind(token, fields);
+    fields[..4].copy_from_slice(&cursor_fields(next));
+    fields[4..9].copy_from_slice(&kind_fields(token));
 }
 
 // Where a token's text stands.
-fn put_part(part: Part, fields: &mut [u64; 12])
-    ensures { fields.new ≡ sets fields.old 9 (part_fields part) }
+fn part_fields(part: Part) -> [u64; 3]
+    ensures { result ≡ part_fields part }
 {
     match part {
-        Part::Source { start, end } => {
-            fields[PART] = 0;
-            fields[PART_START] = start as u64;
-            fields[PART_END] = end as u64;
-        }
-        Part::Scratch { start, end } => {
-            fields[PART] = 1;
-            fields[PART_START] = start as u64;
-            fields[PART_END] = end as u64;
-        }
+        Part::Source { start, end } => [0, start as u64, end as u64],
+        Part::Scratch { start, end } => [1, start as u64, end as u64],
     }
 }
 
-pub fn put_answer(answer: Answer, fields: &mut [u64; 9]) -> u32
+pub fn put_answer(answer: Result<TokenRead, Refused>, fields: &mut [u64; 9]) -> u32
     ensures { leaves result fields.new ≡ answer_leaves answer fields.old }
 {
     match answer {
-        Answer::Refused { fault, cursor: _ } => put_refused(fault, fields),
-        Answer::Read { token, next } => {
+        Err(refused) => put_refused(refused.fault, fields),
+        Ok(TokenRead { token, next }) => {
             put_token(token, next, fields);
             READ
         }
     }
 }
 
-pub fn put_text(answer: TextAnswer, fields: &mut [u64; 12]) -> u32
+pub fn put_text(answer: Result<TextRead, Refused>, fields: &mut [u64; 12]) -> u32
     ensures { leaves result fields.new ≡ answer_text_leaves answer fields.old }
 {
     match answer {
-        TextAnswer::Refused { fault, cursor: _ } => put_refused(fault, fields),
-        TextAnswer::Read { token, next, part } => {
+        Err(refused) => put_refused(refused.fault, fields),
+        Ok(TextRead { token, next, part }) => {
             put_token(token, next, fields);
-            put_part(part, fields);
+            fields[9..].copy_from_slice(&part_fields(part));
             READ
         }
     }
@@ -213,33 +167,29 @@ pub fn put_text(answer: TextAnswer, fields: &mut [u64; 12]) -> u32
 fn layout_number(kind: LayoutKind) -> u64
     ensures { result ≡ layout_number kind }
 {
-    match kind {
-        LayoutKind::Blanks => 1,
-        LayoutKind::SingleLine => 2,
-        LayoutKind::Bracketed => 3,
-    }
+    kind as u64 + 1
 }
 
 // What stands between a start and the cursor behind it, and the number of its kind.
 fn put_span(kind: u64, start: usize, next: Cursor, fields: &mut [u64; 6])
     ensures { fields.new ≡ sets fields.old 0 (layout_fields kind start next) }
 {
-    put_cursor(next, fields);
+    fields[..4].copy_from_slice(&cursor_fields(next));
     fields[KIND] = kind;
     fields[START] = start as u64;
 }
 
 // Where no layout text is, an empty span at the caller's cursor is.
-pub fn put_layout(answer: LayoutAnswer, fields: &mut [u64; 6]) -> u32
+pub fn put_layout(answer: Result<LayoutRead, Refused>, fields: &mut [u64; 6]) -> u32
     ensures { leaves result fields.new ≡ layout_leaves answer fields.old }
 {
     match answer {
-        LayoutAnswer::Refused { fault, cursor: _ } => put_refused(fault, fields),
-        LayoutAnswer::Absent { cursor } => {
+        Err(refused) => put_refused(refused.fault, fields),
+        Ok(LayoutRead::Absent { cursor }) => {
             put_span(NO_LAYOUT, cursor.offset, cursor, fields);
             READ
         }
-        LayoutAnswer::Read { kind, start, next } => {
+        Ok(LayoutRead::Text { kind, start, next }) => {
             put_span(layout_number(kind), start, next, fields);
             READ
         }
@@ -257,6 +207,19 @@ pub fn put_fault(fault: Fault, fields: &mut [u64; 5]) -> u32
 pub fn put_count(count: usize, next: Cursor, fields: &mut [u64; 5])
     ensures { fields.new ≡ sets fields.old 0 (count_fields count next) }
 {
-    put_cursor(next, fields);
+    fields[..4].copy_from_slice(&cursor_fields(next));
     fields[COUNT] = count as u64;
+}
+
+// The one or the other.
+pub fn put_counted(answer: Result<(usize, Cursor), Refused>, fields: &mut [u64; 5]) -> u32
+    ensures { leaves result fields.new ≡ counted_leaves answer fields.old }
+{
+    match answer {
+        Err(refused) => put_fault(refused.fault, fields),
+        Ok((count, next)) => {
+            put_count(count, next, fields);
+            READ
+        }
+    }
 }

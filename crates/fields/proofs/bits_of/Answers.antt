@@ -1,33 +1,40 @@
 -- `fields::bits_of` meets its contract. Assumes nothing.
-use Prim.Native.Nat.{ℕ}
-use mathlib.Core.Path.{◌≡◌}
-use mathlib.Core.Bool.{true, false, not}
+use Prim.Native.Nat.{ℕ, ◌*◌}
+use mathlib.Core.Path.{◌≡◌, refl}
+use mathlib.Core.Bool.{Bool, true, false, beq}
 use native.Mathlib.Omega.{arith}
 use borrow.Author.Rules.{rules}
-use lib.Dec.{T}
-use lib.Ieee.{Float, nan, inf, fin, eq, is_nan, to_bits, binary64}
+use borrow.Author.Tests.{eq-eqb}
+use lib.Ieee.{Float, nan, inf, fin, eq, is_nan, level, up, down}
 use Rattle.fields.specs.Fields.{bits_of}
 use Rattle.fields.proofs.bits_of.Goals as goal
 
--- what equals itself is no NaN
-no_nan : (x : Float) → eq x x ≡ true → T (not (is_nan x))
+same_sign : (s : Bool) → beq s s ≡ true
+same_sign true = cc
+same_sign false = cc
+
+level_self : (s : Bool) (n : ℕ) → level s n s n ≡ true
+level_self s n = cc (eq-eqb n n refl, same_sign s)
+
+-- what is no NaN equals itself, and a NaN does not
+equal : (x : Float) → is_nan x ≡ false → eq x x ≡ true
 unfolding eq is_nan
-no_nan nan e = let z : ◌≡◌ {A = ℕ} 0 1 = cc in absurd (omega arith)
-no_nan (inf s) e = tt
-no_nan (fin s m e) h = tt
+equal nan e = let z : ◌≡◌ {A = ℕ} 1 0 = cc in absurd (omega arith)
+equal (inf s) e = same_sign s
+equal (fin s m e) h = level_self s (m * up e * down e)
 
-with_bits : (x : Float) → eq x x ≡ true → to_bits binary64 x ≡ bits_of x
+unequal : (x : Float) → is_nan x ≡ true → eq x x ≡ false
+unfolding eq is_nan
+unequal nan e = cc
+unequal (inf s) e = let z : ◌≡◌ {A = ℕ} 0 1 = cc in absurd (omega arith)
+unequal (fin s m e) h = let z : ◌≡◌ {A = ℕ} 0 1 = cc in absurd (omega arith)
+
+ruleset ways = (equal, unequal, rules)
+
+pub returns-then-is_nan : goal.returns-then-is_nan
 unfolding bits_of
-with_bits x e = cc
+returns-then-is_nan c = search ways
 
-no_bits : (x : Float) → eq x x ≡ false → 0 ≡ bits_of x
+pub returns-else-is_nan : goal.returns-else-is_nan
 unfolding bits_of
-no_bits x e = cc
-
-ruleset ways = (no_nan, with_bits, no_bits, rules)
-
-pub returns-then-x : goal.returns-then-x
-returns-then-x c = search ways
-
-pub returns : goal.returns
-returns c = search ways
+returns-else-is_nan c = search ways

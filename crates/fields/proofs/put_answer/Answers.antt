@@ -1,12 +1,12 @@
 -- `fields::put_answer` meets its contract. Assumes nothing.
 use borrow.Author.Rules.{rules}
-use Rattle.fields.proofs.Laws.{token-refused, token-read}
+use Rattle.fields.specs.Fields.{answer_leaves}
 use Rattle.fields.proofs.put_answer.Goals as goal
 
-ruleset ways = (token-refused, token-read, rules)
+pub returns-in-Err : goal.returns-in-Err
+unfolding answer_leaves
+returns-in-Err c = search rules
 
-pub returns-in-Refused : goal.returns-in-Refused
-returns-in-Refused c = search ways
-
-pub returns-in-Read : goal.returns-in-Read
-returns-in-Read c = search ways
+pub returns-in-Ok : goal.returns-in-Ok
+unfolding answer_leaves
+returns-in-Ok c = search rules

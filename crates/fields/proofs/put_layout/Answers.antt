@@ -1,15 +1,16 @@
 -- `fields::put_layout` meets its contract. Assumes nothing.
 use borrow.Author.Rules.{rules}
-use Rattle.fields.proofs.Laws.{layout-refused, layout_absent, layout-read}
+use Rattle.fields.specs.Fields.{layout_leaves}
 use Rattle.fields.proofs.put_layout.Goals as goal
 
-ruleset ways = (layout-refused, layout_absent, layout-read, rules)
+pub returns-in-Err : goal.returns-in-Err
+unfolding layout_leaves
+returns-in-Err c = search rules
 
-pub returns-in-Refused : goal.returns-in-Refused
-returns-in-Refused c = search ways
+pub returns-in-Ok-Absent : goal.returns-in-Ok-Absent
+unfolding layout_leaves
+returns-in-Ok-Absent c = search rules
 
-pub returns-in-Absent : goal.returns-in-Absent
-returns-in-Absent c = search ways
-
-pub returns-in-Read : goal.returns-in-Read
-returns-in-Read c = search ways
+pub returns-in-Ok-Text : goal.returns-in-Ok-Text
+unfolding layout_leaves
+returns-in-Ok-Text c = search rules
