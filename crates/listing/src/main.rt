@@ -8,14 +8,14 @@ ghost use Rattle.reader.specs.LineCall.{longest_line};
 ghost use Rattle.listing.specs.Ends.{Ends};
 
 use lexer::{Cursor, Fault, refusal_number};
-use reader::{LineAnswer, list_clause};
+use reader::list_clause;
 
-// The numbers of the standard streams, as POSIX has them.
+// The numbers of the standard streams, as POSIX has them. The crate `io` takes them: std's streams would rest on one axiom more, that of errno.
 const STDIN_FILENO: i32 = 0;
 
 const STDOUT_FILENO: i32 = 1;
 
-// One byte more than a text may have: the first call refuses it then.
+// One byte more than a text may have: the first call refuses it then. Both buffers are arrays, since there is no heap.
 const INPUT: usize = 65536;
 // No line is longer than 65,535 + 5 * 1,023 bytes (`line-fits` in the reader's proofs/Theorems.antt). A newline ends it.
 const LINE: usize = 65535 + 5 * 1023 + 1;
@@ -25,14 +25,12 @@ fn write_line(line: &mut [u8], count: usize)
     requires { count < length line.old }
 {
     line[count] = b'\n';
-    let end = count + 1;
-    io::write_all(STDOUT_FILENO, &line[..end]);
+    io::write_all(STDOUT_FILENO, &line[..=count]);
 }
 
 fn write_refusal(fault: Fault) {
     io::write_all(STDOUT_FILENO, b"refused ");
-    let refusal = fault.refusal;
-    io::print_decimal(STDOUT_FILENO, refusal_number(refusal) as u64);
+    io::print_decimal(STDOUT_FILENO, u64::from(refusal_number(fault.refusal)));
     io::write_all(STDOUT_FILENO, b" at ");
     io::print_decimal(STDOUT_FILENO, fault.offset as u64);
     io::write_all(STDOUT_FILENO, b"\n");
@@ -51,10 +49,10 @@ fn list_text(text: &[u8], line: &mut [u8]) -> Fault
     let room = line.len() - 1;
     loop {
         match list_clause(text, cursor, &mut line[..room]) {
-            LineAnswer::Refused { fault, cursor: _ } => return fault,
-            LineAnswer::Read { length, next } => {
-                write_line(line, length);
-                cursor = next;
+            Err(refused) => return refused.fault,
+            Ok(read) => {
+                write_line(line, read.length);
+                cursor = read.next;
             }
         }
     }

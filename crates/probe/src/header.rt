@@ -1,197 +1,163 @@
-// The header line of a case: `CALL OFFSET LINE COLUMN ROOM LENGTH`, one space between two fields.
-ghost use Rattle.std.specs.Prelude.{◌≡◌};
+// How a case is read. Its header line is `CALL OFFSET LINE COLUMN ROOM LENGTH`, one space between two fields.
+ghost use Rattle.std.specs.Prelude.{◌≤◌, IfOk, length};
 
+use crate::Malformed;
 use lexer::Cursor;
+use pack::Version;
 
 // More digits than a usize can have are refused, so that a header has a largest length.
 const MOST_DIGITS: usize = 20;
 // The letter of the call, five numbers with a space before each, the newline.
-pub const LARGEST_HEADER: usize = 1 + 5 * (1 + MOST_DIGITS) + 1;
+const LARGEST_HEADER: usize = 1 + 5 * (1 + MOST_DIGITS) + 1;
 
+const LARGEST_LENGTH: usize = 70000;
+// A header, a body and its newline: what the input buffer has to hold at once.
+pub const LARGEST_CASE: usize = LARGEST_HEADER + LARGEST_LENGTH + 1;
+
+// The calls of the tokenizer and of the clause reader. A plural is a run of calls, each from the cursor that the last one gave.
 #[derive(Clone, Copy)]
-pub enum Header {
-    Case {
-        call: u8,
-        cursor: Cursor,
-        room: usize,
-        length: usize,
-        // where the text starts
-        start: usize,
-    },
-    Malformed,
+pub enum Reading {
+    Token,
+    Tokens,
+    FieldToken,
+    Layouts,
+    Text,
+    Clause,
+    Clauses,
 }
 
-// A number, and the offset behind the byte that ends it.
+// What a case calls.
 #[derive(Clone, Copy)]
-pub enum Field {
-    Number { value: usize, next: usize },
-    Malformed,
+pub enum Call {
+    Read(Reading),
+    Deliver,
+    Pack(Version),
+    Unpack,
+    Nodes(Version),
+    // to this version
+    Move(Version),
 }
 
-#[derive(Clone, Copy)]
-pub enum CursorFields {
-    At { cursor: Cursor, next: usize },
-    Malformed,
+impl TryFrom<u8> for Call {
+    type Error = Malformed;
+
+    fn try_from(letter: u8) -> Result<Self, Malformed> {
+        match letter {
+            b't' => Ok(Call::Read(Reading::Token)),
+            b'T' => Ok(Call::Read(Reading::Tokens)),
+            b'n' => Ok(Call::Read(Reading::FieldToken)),
+            b'b' => Ok(Call::Read(Reading::Layouts)),
+            b'x' => Ok(Call::Read(Reading::Text)),
+            b'c' => Ok(Call::Read(Reading::Clause)),
+            b'C' => Ok(Call::Read(Reading::Clauses)),
+            b's' => Ok(Call::Deliver),
+            b'p' => Ok(Call::Pack(Version::One)),
+            b'P' => Ok(Call::Pack(Version::Two)),
+            b'u' => Ok(Call::Unpack),
+            b'k' => Ok(Call::Nodes(Version::One)),
+            b'K' => Ok(Call::Nodes(Version::Two)),
+            b'm' => Ok(Call::Move(Version::Two)),
+            b'M' => Ok(Call::Move(Version::One)),
+            _ => Err(Malformed),
+        }
+    }
 }
 
-// A number with one digit more.
+// A case: what is called, from this cursor, with so much room, on these bytes.
 #[derive(Clone, Copy)]
-pub enum Grown {
-    To(usize),
-    NoDigit,
-    TooLarge,
+pub struct Case<'a> {
+    pub call: Call,
+    pub cursor: Cursor,
+    pub room: usize,
+    pub body: &'a [u8],
 }
 
-fn wide(b: u8) -> usize
-    ensures { result ≡ b }
+// The number with one digit more.
+fn with_digit(value: usize, digit: u8) -> Option<usize> {
+    let digit = char::from(digit).to_digit(10)?;
+    value.checked_mul(10)?.checked_add(digit as usize)
+}
+
+// The number that all these digits are.
+pub(crate) fn whole_number(digits: &[u8]) -> Result<usize, Malformed> {
+    if digits.is_empty() {
+        return Err(Malformed);
+    }
+    digits
+        .iter()
+        .try_fold(0, |value, &digit| with_digit(value, digit))
+        .ok_or(Malformed)
+}
+
+// The number in front that the byte `stop` ends, and what is behind it.
+fn read_number(text: &[u8], stop: u8) -> Result<(usize, &[u8]), Malformed>
+    ensures { IfOk result (λ p. length p.1.now ≤ length text.now) }
 {
-    b as usize
+    let end = text
+        .iter()
+        .take(MOST_DIGITS + 1)
+        .position(|&b| b == stop)
+        .ok_or(Malformed)?;
+    let value = whole_number(&text[..end])?;
+    Ok((value, &text[end + 1..]))
 }
 
-pub(crate) fn with_digit(value: usize, b: u8) -> Grown {
-    if b < b'0' {
-        return Grown::NoDigit;
+fn read_call(text: &[u8]) -> Result<(Call, &[u8]), Malformed>
+    ensures { IfOk result (λ p. length p.1.now ≤ length text.now) }
+{
+    let (&[letter, space], rest) = text.split_first_chunk::<2>().ok_or(Malformed)?;
+    if space != b' ' {
+        return Err(Malformed);
     }
-    if b > b'9' {
-        return Grown::NoDigit;
-    }
-    let digit = wide(b - b'0');
-    if value > (usize::MAX - digit) / 10 {
-        return Grown::TooLarge;
-    }
-    Grown::To(value * 10 + digit)
+    Ok((Call::try_from(letter)?, rest))
 }
 
-// The field from `at`, whose last byte before `next` is the one that ends it: one digit at least, and not too many.
-fn field_to(value: usize, at: usize, next: usize) -> Field {
-    if next < at {
-        return Field::Malformed;
-    }
-    let bytes = next - at;
-    if bytes < 2 {
-        return Field::Malformed;
-    }
-    if bytes > MOST_DIGITS + 1 {
-        return Field::Malformed;
-    }
-    Field::Number { value, next }
-}
-
-// The number at `at`, which the byte `stop` ends.
-fn read_number(text: &[u8], at: usize, stop: u8) -> Field {
-    let mut value: usize = 0;
-    let mut i = at;
-    while i < text.len() {
-        let b = text[i];
-        if b == stop {
-            return field_to(value, at, i + 1);
-        }
-        match with_digit(value, b) {
-            Grown::To(more) => value = more,
-            Grown::NoDigit => return Field::Malformed,
-            Grown::TooLarge => return Field::Malformed,
-        }
-        i += 1;
-    }
-    Field::Malformed
-}
-
-fn cursor_fields(text: &[u8], at: usize) -> CursorFields {
-    let Field::Number {
-        value: offset,
-        next: to_line,
-    } = read_number(text, at, b' ')
-    else {
-        return CursorFields::Malformed;
-    };
-    let Field::Number {
-        value: line,
-        next: to_column,
-    } = read_number(text, to_line, b' ')
-    else {
-        return CursorFields::Malformed;
-    };
-    let Field::Number {
-        value: column,
-        next,
-    } = read_number(text, to_column, b' ')
-    else {
-        return CursorFields::Malformed;
-    };
-    CursorFields::At {
-        cursor: Cursor {
+fn read_cursor(text: &[u8]) -> Result<(Cursor, &[u8]), Malformed>
+    ensures { IfOk result (λ p. length p.1.now ≤ length text.now) }
+{
+    let (offset, rest) = read_number(text, b' ')?;
+    let (line, rest) = read_number(rest, b' ')?;
+    let (column, rest) = read_number(rest, b' ')?;
+    Ok((
+        Cursor {
             offset,
             line,
             column,
         },
-        next,
+        rest,
+    ))
+}
+
+// As many bytes as the header says and a newline, and what is behind it.
+fn read_body(text: &[u8], count: usize) -> Result<(&[u8], &[u8]), Malformed>
+    ensures { IfOk result (λ p. length p.1.now ≤ length text.now) }
+{
+    if count > LARGEST_LENGTH {
+        return Err(Malformed);
+    }
+    let (body, rest) = text.split_at_checked(count).ok_or(Malformed)?;
+    match rest.split_first() {
+        Some((&b'\n', behind)) => Ok((body, behind)),
+        _ => Err(Malformed),
     }
 }
 
-// The fields behind the letter of the call.
-fn numbers(text: &[u8], call: u8, at: usize) -> Header {
-    let CursorFields::At {
-        cursor,
-        next: to_room,
-    } = cursor_fields(text, at)
-    else {
-        return Header::Malformed;
-    };
-    let Field::Number {
-        value: room,
-        next: to_length,
-    } = read_number(text, to_room, b' ')
-    else {
-        return Header::Malformed;
-    };
-    let Field::Number {
-        value: length,
-        next: start,
-    } = read_number(text, to_length, b'\n')
-    else {
-        return Header::Malformed;
-    };
-    Header::Case {
-        call,
-        cursor,
-        room,
-        length,
-        start,
-    }
-}
-
-fn is_call(b: u8) -> bool {
-    match b {
-        b't' => true,
-        b'T' => true,
-        b'b' => true,
-        b'n' => true,
-        b'x' => true,
-        b'c' => true,
-        b'C' => true,
-        b'p' => true,
-        b'P' => true,
-        b'u' => true,
-        b'k' => true,
-        b'K' => true,
-        b'm' => true,
-        b'M' => true,
-        b's' => true,
-        _ => false,
-    }
-}
-
-// The header at the front of `text`.
-pub(crate) fn read_header(text: &[u8]) -> Header {
-    if text.len() < 2 {
-        return Header::Malformed;
-    }
-    let call = text[0];
-    if !is_call(call) {
-        return Header::Malformed;
-    }
-    if text[1] != b' ' {
-        return Header::Malformed;
-    }
-    numbers(text, call, 2)
+// The case in front, and what is behind it.
+pub(crate) fn read_case(text: &[u8]) -> Result<(Case<'_>, &[u8]), Malformed>
+    ensures { IfOk result (λ p. length p.1.now ≤ length text.now) }
+{
+    let (call, rest) = read_call(text)?;
+    let (cursor, rest) = read_cursor(rest)?;
+    let (room, rest) = read_number(rest, b' ')?;
+    let (length, rest) = read_number(rest, b'\n')?;
+    let (body, behind) = read_body(rest, length)?;
+    Ok((
+        Case {
+            call,
+            cursor,
+            room,
+            body,
+        },
+        behind,
+    ))
 }

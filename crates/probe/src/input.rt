@@ -1,58 +1,62 @@
 // The input buffer: a window of the input, which is moved on as cases are read.
-ghost use Rattle.std.specs.Prelude.{◌≤◌, length};
+ghost use Rattle.std.specs.Prelude.{◌≡◌, ◌-◌, ◌≤◌, length};
 ghost use Rattle.probe.specs.Window.{Inside};
+ghost use Rattle.probe.specs.declared.input.TheConstants.{CAPACITY};
 
-// The number of the standard input, as POSIX has it.
+// The number of the standard input, as POSIX has it. The crate `io` takes it: std's streams would rest on one axiom more, that of errno.
 const STDIN_FILENO: i32 = 0;
 
 // More than three of the largest cases: what is moved down is then less than what was read.
-pub const INPUT: usize = 262144;
+const CAPACITY: usize = 262144;
 
 // The bytes from `start` to `end` are read and not yet used; `ended` where no more come. A read that fails ends the input too.
-#[derive(Clone, Copy)]
-pub struct Window {
-    pub start: usize,
-    pub end: usize,
-    pub ended: bool,
+#[derive(Drop)]
+pub struct Input {
+    bytes: [u8; CAPACITY],
+    start: usize,
+    end: usize,
+    ended: bool,
+    ghost inside: { Inside CAPACITY start end },
 }
 
-// Moves the bytes from `start` to `end` to the front.
-fn move_down(input: &mut [u8], start: usize, end: usize)
-    requires { Inside (length input.old) start end }
-{
-    let mut i = start;
-    while i < end {
-        input[i - start] = input[i];
-        i += 1;
+impl Input {
+    pub(crate) fn new() -> Self {
+        Input {
+            bytes: [0; CAPACITY],
+            start: 0,
+            end: 0,
+            ended: false,
+        }
     }
-}
 
-// Reads behind the first `held` bytes, until the buffer is full or the input ends.
-fn read_behind(input: &mut [u8], held: usize) -> Window
-    requires { held ≤ length input.old }
-    ensures { Inside (length input.old) result.start result.end }
-{
-    let space = input.len() - held;
-    let got = io::read_full(STDIN_FILENO, &mut input[held..]);
-    Window {
-        start: 0,
-        end: held + got,
-        ended: got < space,
+    // What is read and not yet used.
+    pub(crate) fn unread(&self) -> &[u8]
+        ensures { length result.now ≡ self.now.end - self.now.start }
+    {
+        &self.bytes[self.start..self.end]
     }
-}
 
-// A window with `enough` bytes, or with all that is left of the input.
-pub(crate) fn refill(input: &mut [u8], window: Window, enough: usize) -> Window
-    requires { Inside (length input.old) window.start window.end }
-    ensures { Inside (length input.old) result.start result.end }
-{
-    if window.ended {
-        return window;
+    // All but the last `left` bytes of it are used.
+    pub(crate) fn keep_last(&mut self, left: usize)
+        requires { left ≤ self.old.end - self.old.start }
+    {
+        self.start = self.end - left;
     }
-    let held = window.end - window.start;
-    if held >= enough {
-        return window;
+
+    // Moves what is unread to the front, and reads behind it until the buffer is full or the input ends.
+    fn read_behind(&mut self) {
+        let held = self.end - self.start;
+        self.bytes.copy_within(self.start..self.end, 0);
+        let got = io::read_full(STDIN_FILENO, &mut self.bytes[held..]);
+        self.start = 0;
+        self.end = held + got;
+        self.ended = self.end < CAPACITY;
     }
-    move_down(input, window.start, window.end);
-    read_behind(input, held)
+
+    // Then `enough` bytes are unread, or all that is left of the input.
+    pub(crate) fn refill(&mut self, enough: usize) {
+        if !self.ended && self.end - self.start < enough {
+            self.read_behind();
+        }
+    }
 }

@@ -9,127 +9,60 @@ mod input;
 mod output;
 mod packs;
 
-ghost use Rattle.std.specs.Prelude.{◌≡◌, ◌≤◌, length};
+ghost use Rattle.std.specs.Prelude.{◌≤◌, IfOk, length};
 
-use answers::read_case;
+use answers::reading_case;
 use deliveries::deliver_case;
-use header::{Header, LARGEST_HEADER, read_header};
-use input::{INPUT, Window, refill};
-use lexer::Cursor;
-use output::{OUTPUT, Told, flush, put_bytes};
-use pack::Version;
+use header::{Call, Case, LARGEST_CASE, read_case};
+use input::Input;
+use output::Output;
 use packs::{move_case, nodes_case, pack_case, unpack_case};
 
-const LARGEST_LENGTH: usize = 70000;
-// A header, a body and its newline: what the input buffer has to hold at once.
-const LARGEST_CASE: usize = LARGEST_HEADER + LARGEST_LENGTH + 1;
+// What is no case. Nothing is put for it.
+#[derive(Clone, Copy, Debug, PartialEq, Eq)]
+pub struct Malformed;
 
-// How many bytes of input a case took (none, if it is malformed), and how far the output buffer is filled.
-#[derive(Clone, Copy)]
-pub struct Answered {
-    pub taken: usize,
-    pub filled: usize,
+// The answers to one case. How much room it may lend, what it calls says.
+fn answer(out: &mut Output, case: Case<'_>) -> Result<(), Malformed> {
+    match case.call {
+        Call::Read(reading) => reading_case(out, reading, case),
+        Call::Deliver => deliver_case(out, case),
+        Call::Pack(version) => pack_case(out, version, case),
+        Call::Unpack => unpack_case(out, case),
+        Call::Nodes(version) => nodes_case(out, version, case),
+        Call::Move(to) => move_case(out, to, case),
+    }
 }
 
-fn malformed(out: &mut [u8], filled: usize) -> Answered
-    ensures { result.taken ≡ 0 }
+// Answers the case at the front of `input`, and says how many bytes are behind it.
+fn answer_case(out: &mut Output, input: &[u8]) -> Result<usize, Malformed>
+    ensures { IfOk result (λ left. left ≤ length input.now) }
 {
-    Answered {
-        taken: 0,
-        filled: put_bytes(out, filled, b"malformed\n"),
-    }
+    let (case, behind) = read_case(input)?;
+    answer(out, case)?;
+    Ok(behind.len())
 }
 
-// The answers to one case. How much room a case may lend, its letter says.
-fn answer(
-    out: &mut [u8],
-    filled: usize,
-    call: u8,
-    body: &[u8],
-    cursor: Cursor,
-    room: usize,
-) -> Told {
-    match call {
-        b'p' => pack_case(out, filled, body, cursor, Version::One, room),
-        b'P' => pack_case(out, filled, body, cursor, Version::Two, room),
-        b'u' => unpack_case(out, filled, body, room),
-        b'k' => nodes_case(out, filled, Version::One, body, room),
-        b'K' => nodes_case(out, filled, Version::Two, body, room),
-        b'm' => move_case(out, filled, Version::Two, body, room),
-        b'M' => move_case(out, filled, Version::One, body, room),
-        b's' => deliver_case(out, filled, body, room),
-        _ => read_case(out, filled, call, body, cursor, room),
-    }
-}
-
-// Reads the case at the front of `input` and answers it.
-fn answer_case(out: &mut [u8], filled: usize, input: &[u8]) -> Answered
-    ensures { result.taken ≤ length input.now }
-{
-    let Header::Case {
-        call,
-        cursor,
-        room,
-        length,
-        start,
-    } = read_header(input)
-    else {
-        return malformed(out, filled);
-    };
-    if length > LARGEST_LENGTH {
-        return malformed(out, filled);
-    }
-    if input.len() < start {
-        return malformed(out, filled);
-    }
-    // the body, and one byte behind it
-    if input.len() - start <= length {
-        return malformed(out, filled);
-    }
-    let end = start + length;
-    if input[end] != b'\n' {
-        return malformed(out, filled);
-    }
-    match answer(out, filled, call, &input[start..end], cursor, room) {
-        Told::Filled(more) => Answered {
-            taken: end + 1,
-            filled: more,
-        },
-        Told::Malformed => malformed(out, filled),
-    }
-}
-
-// Answers the cases up to the end of the input, or to one that is malformed, and answers how far the output buffer is filled. A proved loop has
-// to end, and nothing says that the input does: so it counts its turns down, from a number that no run uses up.
-fn answer_cases(out: &mut [u8], input: &mut [u8]) -> usize {
-    let mut window = Window {
-        start: 0,
-        end: 0,
-        ended: false,
-    };
-    let mut filled: usize = 0;
-    let mut turns = u64::MAX;
-    while turns > 0 {
-        window = refill(input, window, LARGEST_CASE);
-        let start = window.start;
-        let end = window.end;
-        if start == end {
-            return filled;
+// Answers the cases up to the end of the input, or to one that is malformed. A proved loop has to end, and nothing says that the input does: so it
+// counts its turns, up to a number that no run comes to.
+fn answer_cases(out: &mut Output, input: &mut Input) -> Result<(), Malformed> {
+    for _ in 0..u64::MAX {
+        input.refill(LARGEST_CASE);
+        let unread = input.unread();
+        if unread.is_empty() {
+            break;
         }
-        let answered = answer_case(out, filled, &input[start..end]);
-        filled = answered.filled;
-        if answered.taken == 0 {
-            return filled;
-        }
-        window.start = start + answered.taken;
-        turns -= 1;
+        let left = answer_case(out, unread)?;
+        input.keep_last(left);
     }
-    filled
+    Ok(())
 }
 
 fn main() {
-    let mut input = [0u8; INPUT];
-    let mut out = [0u8; OUTPUT];
-    let filled = answer_cases(&mut out, &mut input);
-    flush(&out, filled);
+    let mut input = Input::new();
+    let mut out = Output::new();
+    if answer_cases(&mut out, &mut input).is_err() {
+        out.put_text("malformed\n");
+    }
+    out.flush();
 }

@@ -1,127 +1,85 @@
-// The output buffer: each function puts bytes behind the `filled` ones and answers how many are filled now. A full buffer is written out and begun
-// anew, so no answer is too long for it.
-ghost use Rattle.std.specs.Prelude.{◌<◌};
+// The output buffer. A full one is written out and begun anew, so no answer is too long for it. It is no `fmt::Write`: each `write!` would give a Result,
+// and nothing here fails.
+ghost use Rattle.std.specs.Prelude.{◌≤◌};
+ghost use Rattle.probe.specs.declared.output.TheConstants.{CAPACITY};
 
-// The number of the standard output, as POSIX has it.
+// The number of the standard output, as POSIX has it. The crate `io` takes it: std's streams would rest on one axiom more, that of errno.
 const STDOUT_FILENO: i32 = 1;
 
-pub const OUTPUT: usize = 65536;
+const CAPACITY: usize = 65536;
 
-// What a case gave: how far the buffer is filled now; or it is malformed, and nothing was put.
-#[derive(Clone, Copy)]
-pub enum Told {
-    Filled(usize),
-    Malformed,
+#[derive(Drop)]
+pub struct Output {
+    bytes: [u8; CAPACITY],
+    filled: usize,
+    ghost within: { filled ≤ CAPACITY },
 }
 
-// Writes out what the buffer holds.
-pub(crate) fn flush(out: &[u8], filled: usize) {
-    if filled <= out.len() {
-        io::write_all(STDOUT_FILENO, &out[0..filled]);
+impl Output {
+    pub(crate) fn new() -> Self {
+        Output {
+            bytes: [0; CAPACITY],
+            filled: 0,
+        }
     }
-}
 
-// Where the next byte goes: the front, once the buffer is full and written out.
-fn next_place(out: &[u8], filled: usize) -> usize {
-    if filled < out.len() {
-        return filled;
+    // Writes out what the buffer holds.
+    pub(crate) fn flush(&mut self) {
+        io::write_all(STDOUT_FILENO, &self.bytes[..self.filled]);
+        self.filled = 0;
     }
-    flush(out, filled);
-    0
-}
 
-pub(crate) fn put(out: &mut [u8], filled: usize, b: u8) -> usize {
-    let place = next_place(out, filled);
-    // always so: `main` gives a buffer that is not empty
-    if place < out.len() {
-        out[place] = b;
-        return place + 1;
+    pub(crate) fn put(&mut self, b: u8) {
+        if self.filled == CAPACITY {
+            io::write_all(STDOUT_FILENO, &self.bytes);
+            self.filled = 0;
+        }
+        self.bytes[self.filled] = b;
+        self.filled += 1;
     }
-    place
-}
 
-pub(crate) fn put_bytes(out: &mut [u8], filled: usize, bytes: &[u8]) -> usize {
-    let mut now_filled = filled;
-    let mut i: usize = 0;
-    while i < bytes.len() {
-        now_filled = put(out, now_filled, bytes[i]);
-        i += 1;
+    pub(crate) fn put_bytes(&mut self, bytes: &[u8]) {
+        for &b in bytes {
+            self.put(b);
+        }
     }
-    now_filled
-}
 
-// A space, and the number in decimal.
-pub(crate) fn put_number(out: &mut [u8], filled: usize, n: u64) -> usize {
-    let mut digits = [0u8; 20];
-    let count = io::decimal(n, &mut digits);
-    let spaced = put(out, filled, b' ');
-    put_bytes(out, spaced, &digits[..count])
-}
-
-// A double's bits, in sixteen hexadecimal digits.
-pub(crate) fn put_bits(out: &mut [u8], filled: usize, bits: u64) -> usize {
-    let mut digits = [0u8; 16];
-    let count = io::hex(bits, 16, &mut digits);
-    put_bytes(out, filled, &digits[..count])
-}
-
-fn hex_digit(n: u8) -> u8
-    requires { n < 16 }
-{
-    if n < 10 { b'0' + n } else { b'a' - 10 + n }
-}
-
-fn put_pair(out: &mut [u8], filled: usize, b: u8) -> usize {
-    let half = put(out, filled, hex_digit(b / 16));
-    put(out, half, hex_digit(b % 16))
-}
-
-// The bytes as hexadecimal pairs, or `-` where there are none.
-pub(crate) fn put_pairs(out: &mut [u8], filled: usize, bytes: &[u8]) -> usize {
-    if bytes.len() == 0 {
-        return put(out, filled, b'-');
+    pub(crate) fn put_text(&mut self, text: &str) {
+        self.put_bytes(text.as_bytes());
     }
-    let mut now_filled = filled;
-    let mut i: usize = 0;
-    while i < bytes.len() {
-        now_filled = put_pair(out, now_filled, bytes[i]);
-        i += 1;
-    }
-    now_filled
-}
 
-fn put_short(out: &mut [u8], filled: usize, n: u16) -> usize {
-    put_number(out, filled, n as u64)
-}
+    // A space, and the number in decimal.
+    pub(crate) fn put_number(&mut self, n: u64) {
+        let mut digits = [0u8; 20];
+        let count = io::decimal(n, &mut digits);
+        self.put(b' ');
+        self.put_bytes(&digits[..count]);
+    }
 
-// The numbers in decimal with a space before each, or ` -` where there are none.
-pub(crate) fn put_numbers(out: &mut [u8], filled: usize, numbers: &[u16]) -> usize {
-    if numbers.len() == 0 {
-        return put_bytes(out, filled, b" -");
+    // At least `width` hexadecimal digits.
+    pub(crate) fn put_hex(&mut self, n: u64, width: usize) {
+        let mut digits = [0u8; 16];
+        let count = io::hex(n, width, &mut digits);
+        self.put_bytes(&digits[..count]);
     }
-    let mut now_filled = filled;
-    let mut i: usize = 0;
-    while i < numbers.len() {
-        now_filled = put_short(out, now_filled, numbers[i]);
-        i += 1;
-    }
-    now_filled
-}
 
-fn put_long(out: &mut [u8], filled: usize, n: u32) -> usize {
-    put_number(out, filled, n as u64)
-}
+    // The bytes as hexadecimal pairs, or `-` where there are none.
+    pub(crate) fn put_pairs(&mut self, bytes: &[u8]) {
+        if bytes.is_empty() {
+            self.put(b'-');
+        }
+        for &b in bytes {
+            self.put_hex(u64::from(b), 2);
+        }
+    }
 
-// The same for numbers of 32 bits.
-pub(crate) fn put_longs(out: &mut [u8], filled: usize, numbers: &[u32]) -> usize {
-    if numbers.len() == 0 {
-        return put_bytes(out, filled, b" -");
+    // The numbers in decimal with a space before each, or ` -` where there are none.
+    pub(crate) fn put_numbers<N: Copy + Into<u64>>(&mut self, numbers: &[N]) {
+        if numbers.is_empty() {
+            self.put_text(" -");
+        }
+        for &n in numbers {
+            self.put_number(n.into());
+        }
     }
-    let mut now_filled = filled;
-    let mut i: usize = 0;
-    while i < numbers.len() {
-        now_filled = put_long(out, now_filled, numbers[i]);
-        i += 1;
-    }
-    now_filled
 }
