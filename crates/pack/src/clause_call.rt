@@ -14,7 +14,7 @@ use crate::kinds::KIND_UNIT;
 use crate::nodes::Given;
 use crate::writing::{begin_pack, put_node};
 use lexer::{Cursor, Fault, Refused};
-use reader::{NodeKind, read_clause, span_tokens};
+use reader::{ClauseRead, NodeKind, read_clause, span_tokens};
 
 // The last token of a node's spelling: a negative number runs on to the number.
 fn last_of(kind: usize, token: usize) -> usize
@@ -121,12 +121,11 @@ fn pack_read(
     text: &[u8],
     cursor: Cursor,
     tree: &[u16],
-    nodes: usize,
-    next: Cursor,
+    read: ClauseRead,
     version: Version,
     out: &mut [u8],
 ) -> Result<PackedClause, Refused>
-    requires { ReadTree text.now cursor tree.now nodes next }
+    requires { ReadTree text.now cursor tree.now read.nodes read.next }
     ensures { ClausePack (clause_form version text.now cursor) text.now cursor out.old result out.new }
 {
     let mut starts = [0u16; 1024];
@@ -135,12 +134,15 @@ fn pack_read(
     let form = form_at(text, cursor, usize::from(starts[0]), version);
     let spanned = SpannedTree {
         tree,
-        count: nodes,
+        count: read.nodes,
         starts: &starts,
         ends: &ends,
     };
     match spanned.pack(text, form, out) {
-        Ok(length) => Ok(PackedClause { length, next }),
+        Ok(length) => Ok(PackedClause {
+            length,
+            next: read.next,
+        }),
         Err(fault) => Err(Refused { fault, cursor }),
     }
 }
@@ -156,5 +158,5 @@ pub fn pack_clause(
 {
     let mut tree = [0u16; 2048];
     let read = read_clause(text, cursor, &mut tree)?;
-    pack_read(text, cursor, &tree, read.nodes, read.next, version, out)
+    pack_read(text, cursor, &tree, read, version, out)
 }

@@ -180,17 +180,18 @@ fn text_answer(out: &mut Output, case: Case<'_>)
     out.put(b'\n');
 }
 
-fn clause_line(out: &mut Output, read: ClauseRead) {
-    out.put_text("clause");
-    out.put_number(read.nodes as u64);
-    put_cursor(out, read.next);
+// What was counted of a clause, nodes or bytes, and the cursor behind it.
+pub(crate) fn counted_line(out: &mut Output, name: &str, count: usize, next: Cursor) {
+    out.put_text(name);
+    out.put_number(count as u64);
+    put_cursor(out, next);
     out.put(b'\n');
 }
 
 // The answer of the clause call, and the tree that it left.
 fn clause_lines(out: &mut Output, answer: Result<ClauseRead, Refused>, tree: &[u16]) {
     match answer {
-        Ok(read) => clause_line(out, read),
+        Ok(read) => counted_line(out, "clause", read.nodes, read.next),
         Err(refused) => refused_line(out, refused),
     }
     out.put_text("tree");

@@ -1,10 +1,10 @@
 // The calls that pack and unpack, and their answers as lines.
 use crate::Malformed;
-use crate::answers::{FILL, put_cursor, refused_at_start, refused_line};
+use crate::answers::{FILL, counted_line, refused_at_start, refused_line};
 use crate::header::Case;
 use crate::output::Output;
 use lexer::Fault;
-use pack::{Form, PackedClause, Unpacked, Version};
+use pack::{Form, Unpacked, Version};
 
 // Room for the longest image, 65,538 bytes, and more. What is lent is a part of an array, since there is no heap.
 const LARGEST_IMAGE: usize = 70000;
@@ -29,13 +29,6 @@ fn image_line(out: &mut Output, image: &[u8]) {
 
 // ---- packing of a clause
 
-fn clause_pack_line(out: &mut Output, packed: PackedClause) {
-    out.put_text("pack");
-    out.put_number(packed.length as u64);
-    put_cursor(out, packed.next);
-    out.put(b'\n');
-}
-
 pub(crate) fn pack_case(
     out: &mut Output,
     version: Version,
@@ -44,7 +37,7 @@ pub(crate) fn pack_case(
     let mut lent = [FILL; LARGEST_IMAGE];
     let (image, _) = lent.split_at_mut_checked(case.room).ok_or(Malformed)?;
     match pack::pack_clause(case.body, case.cursor, version, image) {
-        Ok(packed) => clause_pack_line(out, packed),
+        Ok(packed) => counted_line(out, "pack", packed.length, packed.next),
         Err(refused) => refused_line(out, refused),
     }
     image_line(out, image);
@@ -64,6 +57,7 @@ fn put_form(out: &mut Output, form: Form) {
     }
 }
 
+// A form follows the count, and no cursor: no `counted_line`.
 fn nodes_line(out: &mut Output, unpacked: Unpacked) {
     out.put_text("nodes");
     out.put_number(unpacked.count as u64);
