@@ -16,7 +16,6 @@ use Rattle.lexer.proofs.Parts.{read_parts, refuse_parts}
 use Rattle.lexer.proofs.Cursors.{is-valid, move_offset, move_valid, over-bytes}
 use Rattle.lexer.proofs.Promises.{lexeme_ends}
 use Rattle.lexer.specs.Refusal.{refuse}
-use Rattle.std.specs.declared.result.Result.TheVariants.{Ok, Err}
 
 -- the token t was read at the cursor c of the text s, and the cursor d stands behind it
 pub record Promised (s : List ℕ) (c : Cursor) (t : Token) (d : Cursor) : Type 0 where

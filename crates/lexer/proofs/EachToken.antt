@@ -11,7 +11,7 @@ use Rattle.lexer.specs.Digits.{beyond}
 use Rattle.lexer.specs.Float.{float_value}
 use Rattle.lexer.specs.Layout.{layout_end}
 use Rattle.lexer.specs.Look.{peek, lookahead}
-use Rattle.lexer.specs.Name.{alphanumerics, graphics, run_token, name_token, PlainToken, whole_token}
+use Rattle.lexer.specs.Name.{alphanumerics, graphics, run_token, name_token, PlainToken}
 use Rattle.lexer.specs.Number.{number_token, NumberRead}
 use Rattle.lexer.specs.Quoted.{Quoted, decode}
 use Rattle.lexer.specs.Token.{mark, bar_to, point_to, solo_to, floated, valued, numbered, sourced, plain_token, Text, decoded, Lexeme, lexeme, refused, text_of, plain_lexeme, quoted_to, quoted_lexeme, lexeme_to, after_layout, behind_layout, lexeme_since, read_lexeme}

@@ -14,7 +14,7 @@ use Rattle.lexer.specs.Digits.{is_digit, digits_at, beyond}
 use Rattle.lexer.specs.Float.{float_value}
 use Rattle.lexer.specs.Layout.{begins_with, past, single_line_comment, comment_opened, slashed, layout_text_of, layout_end}
 use Rattle.lexer.specs.Look.{peek, needed, lookahead}
-use Rattle.lexer.specs.Name.{run_end, alphanumerics, graphics, run_token, name_token, PlainToken, whole_token}
+use Rattle.lexer.specs.Name.{run_end, alphanumerics, graphics, run_token, name_token, PlainToken}
 use Rattle.lexer.specs.Number.{radix_closed, radix_to, radix_constant, character_code, zero_to, exponent_ends, sign_to, letter_to, exponent_to, exponent, float, fraction_digits, fraction, integer_to, number_token, ExponentRead, NumberRead}
 use Rattle.lexer.specs.Number as Number
 use Rattle.lexer.specs.Quoted.{escape_of, coded, closed, numeric_escape, escape_to, quote_to, unquotable, item_to, quoted_item, Quoted, with_char, out_of_limit, decode, QuotedItem}

@@ -10,7 +10,7 @@ use lib.Dec.{eqb, leb}
 use lib.ListN.{take, drop}
 use Rattle.lexer.specs.Chars.{class_of, is, within, small_letter, decimal_digit, graphic_token_char, layout_char, foreign_byte, carriage_return}
 use Rattle.lexer.specs.Cursor.{part}
-use Rattle.lexer.specs.Name.{run_end, name_token, PlainToken, whole_token}
+use Rattle.lexer.specs.Name.{run_end, name_token, PlainToken}
 use Rattle.lexer.specs.Token.{plain_token, Text, source, lexeme, text_of, read_lexeme}
 use Rattle.std.specs.declared.result.Result.TheVariants.{Ok, Err}
 use Rattle.lexer.specs.declared.kind.Kind.{Kind}

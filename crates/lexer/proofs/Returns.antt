@@ -31,7 +31,6 @@ use Rattle.lexer.specs.declared.digits.Digits.{Digits}
 use Rattle.lexer.specs.declared.kind.Kind.TheVariants.{Name, String, End}
 use Rattle.lexer.specs.declared.kind.Value.TheVariants.{Nothing}
 use Rattle.lexer.specs.declared.number.Numeral.TheVariants.{Integer}
-use Rattle.lexer.specs.declared.number.NumberToken.{NumberToken}
 use Rattle.lexer.specs.declared.quoted.Item.{Item}
 use Rattle.lexer.specs.Token.{Mark}
 use Rattle.std.specs.declared.option.Option.TheVariants.{Some, None}

@@ -31,7 +31,7 @@ use Rattle.lexer.specs.declared.kind.Value.TheVariants.{Integer, Float, Nothing}
 use Rattle.lexer.specs.declared.layout_call.LayoutKind.TheVariants.{Blanks, SingleLine, Bracketed}
 use Rattle.lexer.specs.declared.token.Source.TheVariants.{File}
 use Rattle.lexer.specs.declared.layout_call.LayoutRead.{LayoutRead}
-use Rattle.std.specs.declared.result.Result.TheVariants.{Ok, Err}
+use Rattle.std.specs.declared.result.Result.TheVariants.{Ok}
 
 -- the bytes of a text
 abbrev bytes : String → List ℕ

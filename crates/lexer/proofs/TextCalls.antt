@@ -15,7 +15,7 @@ use Rattle.lexer.specs.Look.{lookahead}
 use Rattle.lexer.specs.Quoted.{decode}
 use Rattle.lexer.specs.Text.{Outcome, leaves, text_told, next_token_text, counted_text, quoted_from, quoted_text, part_of, fitted, shown, text_read}
 use Rattle.lexer.specs.Token.{source, decoded, none, Lexeme, lexeme, refused, read_lexeme, answered, not_valid, next_token, token_read}
-use Rattle.std.specs.declared.result.Result.TheVariants.{Ok, Err}
+use Rattle.std.specs.declared.result.Result.TheVariants.{Ok}
 use Rattle.lexer.specs.declared.refusal.Fault.{Fault}
 use Rattle.lexer.specs.declared.cursor.Cursor.{Cursor}
 use Rattle.lexer.specs.declared.token.Token.{Token}

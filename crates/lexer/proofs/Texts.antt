@@ -21,7 +21,6 @@ use Rattle.lexer.proofs.Cursors.{move_offset}
 use Rattle.lexer.proofs.EachToken.{Each, OfQuoted, read_each}
 use Rattle.lexer.proofs.Promises.{lexeme_ends}
 use Rattle.lexer.specs.Name.{PlainToken}
-use Rattle.lexer.specs.Name.{whole_token}
 use Rattle.std.specs.declared.result.Result.TheVariants.{Ok, Err}
 
 -- ---- a token whose text is decoded begins with the quote by which it is decoded

@@ -34,7 +34,6 @@ use Rattle.lexer.specs.declared.kind.Value.TheVariants.{Integer, Nothing}
 use Rattle.lexer.specs.declared.layout_call.LayoutKind.{LayoutKind}
 use Rattle.lexer.specs.declared.number.Numeral.{Numeral}
 use Rattle.lexer.specs.declared.number.NumberToken.{NumberToken}
-use Rattle.lexer.specs.declared.quoted.Item.{Item}
 use Rattle.lexer.specs.declared.text.Part.{Part}
 use Rattle.lexer.specs.declared.token.Token.{Token}
 use Rattle.lexer.specs.declared.token.Source.{Source}

@@ -8,8 +8,7 @@ use Rattle.lexer.specs.Token.{not_valid}
 use Rattle.lexer.specs.declared.cursor.Cursor.{Cursor}
 use Rattle.lexer.specs.Cursor.{Scan}
 use Rattle.std.specs.declared.result.Result.TheVariants.{Ok, Err}
-use Rattle.lexer.specs.Layout.{Layout}
-use Rattle.std.specs.declared.option.Option.TheVariants.{Some, None}
+use Rattle.std.specs.declared.option.Option.TheVariants.{Some}
 use Rattle.lexer.specs.declared.layout_call.LayoutKind.{LayoutKind}
 use Rattle.lexer.specs.declared.refusal.Refused.{Refused}
 use Rattle.lexer.specs.declared.layout_call.LayoutKind.TheVariants.{Blanks, SingleLine, Bracketed}

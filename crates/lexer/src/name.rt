@@ -1,8 +1,7 @@
 // Names and variables that are not quoted.
-ghost use Rattle.std.specs.Prelude.{ℕ, ◌≡◌, ◌+◌, ◌<◌, drop, length};
+ghost use Rattle.std.specs.Prelude.{ℕ, ◌≡◌, ◌+◌, ◌<◌, drop, length, Ok};
 ghost use Rattle.lexer.specs.Chars.{class_of, within, small_letter, decimal_digit, graphic_token_char};
 ghost use Rattle.lexer.specs.Look.{lookahead};
-ghost use Rattle.std.specs.Prelude.{Ok};
 ghost use Rattle.lexer.specs.declared.kind.Value.TheVariants.{Nothing};
 ghost use Rattle.lexer.specs.Name.{run_stop, run_end, run_token, whole_token, graphic_token, solo_name, symbol_name, word_kind, word_token};
 

@@ -1,10 +1,9 @@
 // Tokens, and the token call.
-ghost use Rattle.std.specs.Prelude.{◌≡◌, true, false, cond, ◌+◌, ◌<◌, eqb, length};
+ghost use Rattle.std.specs.Prelude.{◌≡◌, true, false, cond, ◌+◌, ◌<◌, eqb, length, Ok, Some};
 ghost use Rattle.lexer.specs.Chars.{single_quote};
 ghost use Rattle.lexer.specs.Cursor.{Valid, move_to};
 ghost use Rattle.lexer.specs.Refusal.{fault};
 ghost use Rattle.lexer.specs.declared.refusal.Refusal.TheVariants.{NoToken, OutOfLimit};
-ghost use Rattle.std.specs.Prelude.{Ok, Some};
 ghost use Rattle.lexer.specs.declared.token.Source.TheVariants.{File};
 ghost use Rattle.lexer.specs.declared.kind.Kind.TheVariants.{Name, String};
 ghost use Rattle.lexer.specs.Number.{number_token};

@@ -7,7 +7,7 @@ use mathlib.Core.Logic.{◌⊎◌}
 use mathlib.Core.List.{List}
 use lib.ListN.{length, take}
 use lib.Seq.{sets}
-use Rattle.lexer.specs.Refusal.{fault, refused_at, refuse}
+use Rattle.lexer.specs.Refusal.{fault, refuse}
 use Rattle.lexer.specs.declared.cursor.Cursor.{Cursor}
 use Rattle.lexer.specs.declared.refusal.Fault.{Fault}
 use Rattle.lexer.specs.declared.refusal.Refusal.TheVariants.{NoRoom, TooLong, NoPack}

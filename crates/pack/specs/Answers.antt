@@ -1,6 +1,6 @@
 -- What packing and unpacking answer. Definitions only.
 use Rattle.std.specs.Prelude.{ℕ, Result}
-use Rattle.std.specs.declared.result.Result.TheVariants.{Ok, Err}
+use Rattle.std.specs.declared.result.Result.TheVariants.{Ok}
 use Rattle.lexer.specs.declared.cursor.Cursor.{Cursor}
 use Rattle.lexer.specs.declared.refusal.Fault.{Fault}
 use Rattle.pack.specs.declared.format.Form.{Form}

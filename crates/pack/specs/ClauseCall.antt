@@ -14,7 +14,7 @@ use Rattle.pack.specs.Calls.{Written}
 use Rattle.pack.specs.declared.format.Form.{Form}
 use Rattle.pack.specs.declared.format.Version.{Version}
 use Rattle.pack.specs.Answers.{PackAnswer, ClausePackAnswer, packed_as}
-use Rattle.lexer.specs.Refusal.{refused_at, refuse}
+use Rattle.lexer.specs.Refusal.{refuse}
 use Rattle.std.specs.declared.result.Result.TheVariants.{Ok, Err}
 
 -- "The spelling is the token's source bytes; for kind 1 it runs on to the number's end": the spelling's last token, of a node at the token i

@@ -20,7 +20,6 @@ use Rattle.reader.specs.Machine.{see}
 use Rattle.reader.specs.Clause.{token_in}
 use Rattle.reader.specs.Gather.{token_of, token_from, sight_from}
 use Rattle.lexer.specs.Refusal.{refuse}
-use Rattle.std.specs.declared.result.Result.TheVariants.{Ok, Err}
 
 -- what is known of a token that the token call read at c, with the cursor d behind it
 pub record Known (s : List ℕ) (c : Cursor) (t : lexer.Token) (d : Cursor) : Type 0 where

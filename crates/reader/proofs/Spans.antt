@@ -22,7 +22,6 @@ use Rattle.reader.specs.Cover.{between, all_bytes}
 use Rattle.reader.proofs.Cover.{covers_none, covers_more}
 use Rattle.reader.proofs.Sights.{Known, known}
 use Rattle.reader.proofs.Turns.{answered_there}
-use Rattle.std.specs.declared.result.Result.TheVariants.{Ok}
 
 pub terminals-length : (i : ℕ) (ts : List Token) → length (terminals i ts) ≡ length ts
 unfolding terminals

@@ -28,7 +28,6 @@ use Rattle.reader.specs.declared.machine.Stop as codeStop
 use Rattle.reader.proofs.Sights.{Known, token-known}
 use Rattle.reader.proofs.Size.{count_low, numbered}
 use Rattle.lexer.specs.Refusal.{refuse}
-use Rattle.std.specs.declared.result.Result.TheVariants.{Err}
 
 -- ---- what the token call tells
 

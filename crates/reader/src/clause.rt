@@ -190,8 +190,8 @@ fn first_tokens(
     take_tokens(text, before, 0, to, frames, nodes)
 }
 
-// The offset of the first token; 0 where none can be read, as in the definition. It goes by the machine's loop, which takes this token alive: a second place that calls the token call would keep the compiler
-// from laying that call into the loop.
+// The offset of the first token; 0 where none can be read, as in the definition. It goes by the machine's loop, which takes this token alive: a second place
+// that calls the token call would keep the compiler from laying that call into the loop.
 pub(crate) fn first_offset(text: &[u8], cursor: Cursor) -> usize
     requires { valid (length text.now) cursor ≡ true }
     ensures { result ≡ first_offset text.now cursor }

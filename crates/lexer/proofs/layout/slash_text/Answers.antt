@@ -15,7 +15,6 @@ use Rattle.lexer.specs.declared.refusal.Fault.{Fault}
 use Rattle.lexer.specs.Look.{Look}
 use Rattle.std.specs.declared.result.Result.TheVariants.{Ok, Err}
 use Rattle.lexer.specs.declared.cursor.Cursor.{Cursor}
-use Rattle.lexer.specs.Cursor.{Moved}
 use Rattle.lexer.specs.Layout.{Layout}
 use Rattle.std.specs.declared.option.Option.TheVariants.{Some, None}
 use Rattle.lexer.specs.Cursor.{Scan}

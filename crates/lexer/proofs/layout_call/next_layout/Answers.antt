@@ -15,7 +15,6 @@ use Rattle.lexer.proofs.Cursors.{tested-valid}
 use Rattle.lexer.proofs.LayoutCalls.{given}
 use Rattle.lexer.proofs.layout_call.next_layout.Goals as goal
 use Rattle.lexer.specs.Refusal.{refuse}
-use Rattle.std.specs.declared.result.Result.TheVariants.{Err}
 
 module _ (s : List ℕ) (c : Cursor) (t : Bool) (e : t ≡ valid (length s) c) where
   read : (r : LayoutAnswer) → t ≡ true → r ≡ given s c → r ≡ next_layout s c

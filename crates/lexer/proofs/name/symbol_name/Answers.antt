@@ -14,7 +14,6 @@ use Rattle.lexer.specs.Name.{run_end, graphics, run_token, solo_name, symbol_nam
 use Rattle.std.specs.declared.result.Result.TheVariants.{Ok, Err}
 use Rattle.lexer.specs.Cursor.{Scan}
 use Rattle.lexer.specs.declared.kind.Kind.TheVariants.{Name}
-use Rattle.lexer.specs.declared.kind.Plain.{Plain}
 use Rattle.lexer.specs.declared.kind.Value.TheVariants.{Nothing}
 use Rattle.lexer.specs.declared.refusal.Fault.{Fault}
 use Rattle.lexer.proofs.HandedOn.{handed_on}

@@ -5,8 +5,8 @@ use mathlib.Core.List.{List}
 use borrow.Author.Rules.{rules}
 use Rattle.lexer.specs.Chars.{single_quote}
 use Rattle.lexer.specs.Digits.{beyond}
-use Rattle.lexer.specs.Number.{character_code, character_code_constant, held_numeral, held_number, NumberRead}
-use Rattle.lexer.specs.Quoted.{quoted_item, QuotedItem}
+use Rattle.lexer.specs.Number.{character_code, character_code_constant, held_numeral, held_number}
+use Rattle.lexer.specs.Quoted.{quoted_item}
 use Rattle.lexer.specs.Refusal.{fault}
 use Rattle.lexer.specs.declared.refusal.Fault.{Fault}
 use Rattle.lexer.specs.declared.refusal.Refusal.TheVariants.{SetAside}

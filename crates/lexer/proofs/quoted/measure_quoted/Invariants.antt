@@ -10,7 +10,7 @@ use mir.Val.{Fits}
 use lib.ListN.{length, get_or}
 use Rattle.lexer.specs.Chars.{newline, space, backslash}
 use Rattle.lexer.specs.Cursor.{step, move_to, along, Valid, Movable, Along}
-use Rattle.lexer.specs.Quoted.{quoted_item, Quoted, whole, refused, with_char, out_of_limit, decode, measured, MeasureRead, QuotedItem, measure}
+use Rattle.lexer.specs.Quoted.{quoted_item, Quoted, whole, refused, with_char, out_of_limit, decode, measured, MeasureRead, measure}
 use Rattle.lexer.specs.Refusal.{fault}
 use Rattle.lexer.specs.Stretch.{in_stretch, stretch_end}
 use Rattle.lexer.specs.declared.cursor.Cursor.{Cursor}

@@ -9,7 +9,7 @@ use mir.Syntax.{w64}
 use mir.Val.{Fits}
 use lib.ListN.{length, set, length-set}
 use lib.Seq.{sets}
-use Rattle.lexer.specs.Quoted.{quoted_item, Quoted, whole, refused, with_char, out_of_limit, decode, bytes_of, Writes, QuotedItem}
+use Rattle.lexer.specs.Quoted.{quoted_item, Quoted, whole, refused, with_char, out_of_limit, decode, bytes_of, Writes}
 use Rattle.lexer.specs.declared.quoted.Item.TheVariants.{Char, Beyond, Skip, Close}
 use Rattle.lexer.specs.declared.refusal.Fault.{Fault}
 use Rattle.lexer.proofs.QuotedItems.{char_ends, skip_ends, decode-refused, decode-close, decode_skip, decode-beyond, decode_char}

@@ -20,7 +20,6 @@ use Rattle.lexer.specs.declared.token.Spelling.{Spelling}
 use Rattle.lexer.proofs.HandedOn.{handed_on}
 use Rattle.lexer.proofs.Texts.{Decoded, decoded_read}
 use Rattle.lexer.proofs.text.decoded_text.Goals as goal
-use Rattle.std.specs.declared.result.Result.TheVariants.{Ok, Err}
 
 module _ (s : List ℕ) (c : Cursor) (t : Token) (n : ℕ) (next : Cursor) (r : Reads s c t (Spelling.Decoded n) next) where
   it : Decoded s c t n next

@@ -14,7 +14,6 @@ use Rattle.lexer.proofs.HandedOn.{handed_on}
 use Rattle.lexer.proofs.Cursors.{tested-valid}
 use Rattle.lexer.proofs.text.next_token_text.Goals as goal
 use Rattle.lexer.specs.Refusal.{refuse}
-use Rattle.std.specs.declared.result.Result.TheVariants.{Err}
 
 -- the ways out: b says whether the cursor is valid
 module _ (s : List ℕ) (c : Cursor) (b : Bool) (v : b ≡ valid (length s) c) (d : List ℕ) where

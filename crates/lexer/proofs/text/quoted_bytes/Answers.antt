@@ -10,7 +10,7 @@ use borrow.Author.Tests.{le-leb, lt-leb}
 use lib.ListN.{length}
 use lib.Seq.{sets}
 use Rattle.lexer.specs.Cursor.{Valid}
-use Rattle.lexer.specs.Quoted.{Quoted, decode, measured, bytes_of, Writes, MeasureRead, measure}
+use Rattle.lexer.specs.Quoted.{Quoted, decode, measured, bytes_of, Writes, MeasureRead}
 use Rattle.lexer.specs.Refusal.{fault}
 use Rattle.lexer.specs.Text.{counts, counted_text, Begins}
 use Rattle.lexer.specs.declared.cursor.Cursor.{Cursor}

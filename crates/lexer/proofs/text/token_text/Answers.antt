@@ -13,7 +13,6 @@ use Rattle.lexer.specs.declared.token.Spelling.{Spelling}
 use Rattle.lexer.proofs.HandedOn.{handed_on}
 use Rattle.lexer.proofs.Texts.{kept_of, source_moved, source_read}
 use Rattle.lexer.proofs.text.token_text.Goals as goal
-use Rattle.std.specs.declared.result.Result.TheVariants.{Ok, Err}
 
 module _ (s : List ℕ) (c : Cursor) (t : Token) (x : Spelling) (next : Cursor) (r : Reads s c t x next) where
   decodes : (n : ℕ) → x ≡ Spelling.Decoded n → Reads s c t (Spelling.Decoded n) next

@@ -3,11 +3,10 @@ use Prim.Native.Nat.{ℕ}
 use mathlib.Core.Path.{◌≡◌, refl, sym, ◌∙◌, ap}
 use mathlib.Core.List.{List}
 use borrow.Author.Rules.{rules}
-use Rattle.lexer.specs.Token.{Lexeme, lexeme, refused, behind_layout, token_since, lexeme_since, read_lexeme, answered, found, FoundToken, found_whole, token_read, Answer}
+use Rattle.lexer.specs.Token.{Lexeme, lexeme, refused, behind_layout, token_since, lexeme_since, read_lexeme, answered, found, FoundToken, token_read, Answer}
 use Rattle.lexer.specs.declared.refusal.Fault.{Fault}
 use Rattle.lexer.specs.declared.cursor.Cursor.{Cursor}
 use Rattle.lexer.specs.declared.token.Token.{Token}
-use Rattle.lexer.specs.declared.token.Spelling.{Spelling}
 use Rattle.lexer.specs.declared.token.Source.{Source}
 use Rattle.lexer.proofs.HandedOn.{handed_on}
 use Rattle.lexer.proofs.token.answer_at.Goals as goal

@@ -5,11 +5,9 @@ use mathlib.Core.Bool.{Bool}
 use mathlib.Core.List.{List}
 use borrow.Author.Rules.{rules}
 use Rattle.lexer.specs.Look.{lookahead}
-use Rattle.lexer.specs.Token.{Lexeme, lexeme, refused, lexeme_to, answered, found, FoundToken, found_whole, token_read, Answer}
+use Rattle.lexer.specs.Token.{Lexeme, lexeme, refused, lexeme_to, answered, found, FoundToken, token_read, Answer}
 use Rattle.lexer.specs.declared.refusal.Fault.{Fault}
 use Rattle.lexer.specs.declared.cursor.Cursor.{Cursor}
-use Rattle.lexer.specs.declared.token.Token.{Token}
-use Rattle.lexer.specs.declared.token.Spelling.{Spelling}
 use Rattle.lexer.specs.declared.token.Source.TheVariants.{File}
 use Rattle.lexer.proofs.HandedOn.{handed_on}
 use Rattle.lexer.proofs.token.answer_here.Goals as goal

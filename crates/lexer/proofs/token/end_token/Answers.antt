@@ -21,7 +21,7 @@ use Rattle.lexer.specs.declared.kind.Value.TheVariants.{Nothing}
 use Rattle.lexer.proofs.HandedOn.{handed_on}
 use Rattle.lexer.proofs.Looks.{peek_byte}
 use Rattle.lexer.proofs.token.end_token.Goals as goal
-use Rattle.std.specs.declared.result.Result.TheVariants.{Ok, Err}
+use Rattle.std.specs.declared.result.Result.TheVariants.{Err}
 
 module _ (s : List ℕ) (at : ℕ) (r : Peek) (e : r ≡ peek s (at + 1)) where
   ended : (p : PlainToken) → r ≡ Peek.End → p ≡ whole_token End Nothing (at + 1) → p ≡ end_token s at

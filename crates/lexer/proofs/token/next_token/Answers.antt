@@ -14,7 +14,6 @@ use Rattle.lexer.proofs.HandedOn.{handed_on}
 use Rattle.lexer.proofs.Cursors.{tested-valid}
 use Rattle.lexer.proofs.token.next_token.Goals as goal
 use Rattle.lexer.specs.Refusal.{refuse}
-use Rattle.std.specs.declared.result.Result.TheVariants.{Err}
 
 module _ (s : List ℕ) (c : Cursor) (origin : Source) (t : Bool) (e : t ≡ valid (length s) c) where
   read : (r : Answer) → t ≡ true → r ≡ answered s c (read_lexeme origin s c.offset) → r ≡ next_token origin s c

@@ -19,7 +19,7 @@ use Rattle.lexer.proofs.HandedOn.{handed_on}
 use Rattle.lexer.proofs.token.number_value.Goals as goal
 use Rattle.lexer.specs.Name.{PlainToken}
 use Rattle.lexer.specs.Name.{whole_token}
-use Rattle.std.specs.declared.result.Result.TheVariants.{Ok, Err}
+use Rattle.std.specs.declared.result.Result.TheVariants.{Err}
 
 module _ (at end : ℕ) (n : Numeral) where
   module _ (i : ℕ) (e : n ≡ Numeral.Integer i) where

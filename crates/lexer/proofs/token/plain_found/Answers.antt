@@ -5,11 +5,9 @@ use mathlib.Core.Bool.{Bool}
 use mathlib.Core.List.{List}
 use borrow.Author.Rules.{rules}
 use Rattle.lexer.specs.Cursor.{move_to}
-use Rattle.lexer.specs.Token.{plain_token, text_of, kept, token, plain_lexeme, spelled_to, found, At, Begins, Passing, FoundToken}
+use Rattle.lexer.specs.Token.{plain_token, text_of, kept, token, plain_lexeme, spelled_to, found, At, Begins, Passing}
 use Rattle.lexer.specs.declared.refusal.Fault.{Fault}
 use Rattle.lexer.specs.declared.cursor.Cursor.{Cursor}
-use Rattle.lexer.specs.declared.kind.Kind.{Kind}
-use Rattle.lexer.specs.declared.kind.Value.{Value}
 use Rattle.lexer.specs.declared.token.Spelling.{Spelling}
 use Rattle.lexer.specs.declared.token.Source.{Source}
 use Rattle.lexer.proofs.HandedOn.{handed_on}
@@ -17,7 +15,6 @@ use Rattle.lexer.proofs.Looks.{look_byte}
 use Rattle.lexer.proofs.Promises.{plain_token_ends}
 use Rattle.lexer.proofs.token.plain_found.Goals as goal
 use Rattle.lexer.specs.Name.{PlainToken}
-use Rattle.lexer.specs.Name.{whole_token}
 use Rattle.lexer.specs.declared.kind.Plain.{Plain}
 use Rattle.lexer.specs.declared.token.Found.{Found}
 use Rattle.std.specs.declared.result.Result.TheVariants.{Ok, Err}

@@ -24,7 +24,6 @@ use Rattle.lexer.proofs.Marks.{bare}
 use Rattle.lexer.proofs.Sets.{apart}
 use Rattle.lexer.proofs.Table.{agreed}
 use Rattle.lexer.proofs.token.plain_read.Goals as goal
-use Rattle.std.specs.declared.result.Result.TheVariants.{Ok}
 
 -- the bytes that are marks
 abbrev marks : Bool → ℕ → Bool

@@ -7,7 +7,7 @@ use borrow.Author.Rules.{rules}
 use lib.ListN.{length}
 use Rattle.lexer.specs.Cursor.{step, move_to, Valid, Movable}
 use Rattle.lexer.specs.Quoted.{Quoted, decode, measured, MeasureRead, measure}
-use Rattle.lexer.specs.Token.{token, quoted_to, spelled_to, found, Begins, FoundToken}
+use Rattle.lexer.specs.Token.{token, quoted_to, spelled_to, found, Begins}
 use Rattle.lexer.specs.declared.refusal.Fault.{Fault}
 use Rattle.lexer.specs.declared.cursor.Cursor.{Cursor}
 use Rattle.lexer.specs.declared.kind.Kind.{Kind}

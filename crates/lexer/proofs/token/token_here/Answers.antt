@@ -15,7 +15,6 @@ use Rattle.lexer.proofs.HandedOn.{handed_on}
 use Rattle.lexer.proofs.Cursors.{tested-valid}
 use Rattle.lexer.proofs.token.token_here.Goals as goal
 use Rattle.lexer.specs.Refusal.{refuse}
-use Rattle.std.specs.declared.result.Result.TheVariants.{Err}
 
 module _ (s : List ℕ) (c : Cursor) (layout t : Bool) (e : t ≡ valid (length s) c) where
   read : (r : Answer) → t ≡ true → r ≡ answered s c (lexeme_to File s c.offset layout (lookahead s c.offset)) → r ≡ token_here layout s c

@@ -6,10 +6,9 @@ use mathlib.Core.Bool.{Bool, true, false, cond}
 use mathlib.Core.List.{List}
 use native.Mathlib.Omega.{arith}
 use lib.ListN.{length}
-use Rattle.lexer.specs.Token.{next_token, token_read, Answer}
+use Rattle.lexer.specs.Token.{next_token, Answer}
 use Rattle.lexer.specs.declared.token.Source.TheVariants.{File}
 use Rattle.lexer.specs.declared.cursor.Cursor.{Cursor}
-use Rattle.lexer.specs.declared.refusal.Fault.{Fault}
 use Rattle.lexer.specs.declared.token.Token as lexer
 use Rattle.reader.specs.Tree.{packed}
 use Rattle.reader.specs.Machine as M
@@ -25,7 +24,6 @@ use Rattle.reader.proofs.Sights.{known}
 use Rattle.reader.proofs.Size.{step-size}
 use Rattle.reader.proofs.Turns.{told-refused, next-valid, ready, takes_one, run-stop, run_last, run_more}
 use Rattle.reader.proofs.clause.take_tokens.Given as goal
-use Rattle.lexer.specs.Refusal.{refuse}
 use Rattle.lexer.specs.declared.token.TokenRead.{TokenRead}
 use Rattle.lexer.specs.declared.refusal.Refused.{Refused}
 use Rattle.std.specs.declared.result.Result.TheVariants.{Ok, Err}

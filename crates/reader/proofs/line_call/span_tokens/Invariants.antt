@@ -9,10 +9,9 @@ use mir.Syntax.{w16}
 use mir.Val.{Fits}
 use lib.ListN.{length, set, take, length-set, length-append}
 use lib.Seq.{take-suc-set}
-use Rattle.lexer.specs.Token.{next_token, token_read, Answer}
+use Rattle.lexer.specs.Token.{next_token, Answer}
 use Rattle.lexer.specs.declared.token.Source.TheVariants.{File}
 use Rattle.lexer.specs.declared.cursor.Cursor.{Cursor}
-use Rattle.lexer.specs.declared.refusal.Fault.{Fault}
 use Rattle.lexer.specs.declared.token.Token as lexer
 use Rattle.lexer.proofs.Theorems.{token_promises}
 use Rattle.reader.specs.Token.{Token}
@@ -22,7 +21,6 @@ use Rattle.reader.proofs.Sights.{known}
 use Rattle.reader.proofs.Spans.{with_all, with_last, with_whole, with_stopped, with_too_many, gather_end, gather_on, gather_stopped}
 use Rattle.reader.proofs.Turns.{told-refused}
 use Rattle.reader.proofs.line_call.span_tokens.Given as goal
-use Rattle.lexer.specs.Refusal.{refuse}
 use Rattle.lexer.specs.declared.token.TokenRead.{TokenRead}
 use Rattle.lexer.specs.declared.refusal.Refused.{Refused}
 use Rattle.std.specs.declared.result.Result.TheVariants.{Ok, Err}
