@@ -9,7 +9,9 @@ ghost use Rattle.chunks.specs.Verdict.{view};
 
 use crate::bytes::may_return;
 use crate::shown::Shown;
-use lexer::{Cursor, Fault, Refusal, Refused, TokenRead, is_digit, number_end, token_here};
+use lexer::{
+    Cursor, Fault, Refusal, Refused, TokenRead, copy_slice, is_digit, number_end, token_here,
+};
 
 // 02: a token has at most so many bytes.
 pub(crate) const LONGEST_TOKEN: usize = 1024;
@@ -68,7 +70,7 @@ fn first_bytes(hand: &[u8], n: usize) -> [u8; 1028]
     ensures { result ≡ filled n hand.now }
 {
     let mut bytes = [0u8; 1028];
-    bytes[0..n].copy_from_slice(&hand[0..n]);
+    copy_slice(&mut bytes[0..n], &hand[0..n]);
     bytes
 }
 

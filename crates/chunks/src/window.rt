@@ -5,6 +5,7 @@ ghost use Rattle.chunks.specs.Shift.{unknown};
 ghost use Rattle.chunks.specs.Feed.{takes, place_of, filled_with, Moves, Fills, TakesIn};
 
 use crate::verdict::MOST_AT_HAND;
+use lexer::copy_slice;
 
 // 1,027 bytes at hand, as many again, so that each is moved once at most, and the unknown byte.
 pub const WINDOW: usize = 2057;
@@ -55,7 +56,7 @@ fn fill(window: &mut [u8], at: usize, chunk: &[u8], n: usize)
     ensures { window.new ≡ set (paste window.old at chunk.now n) (at + n) unknown }
 {
     let end = at + n;
-    window[at..end].copy_from_slice(&chunk[0..n]);
+    copy_slice(&mut window[at..end], &chunk[0..n]);
     window[end] = UNKNOWN;
 }
 

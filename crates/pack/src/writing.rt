@@ -12,7 +12,7 @@ use crate::format::{
 };
 use crate::kinds::stack;
 use crate::nodes::{Given, given_at};
-use lexer::Fault;
+use lexer::{Fault, copy_slice};
 
 // How many bytes the nodes take in an image, if they are a tree that unpacking would accept. One pass over the nodes: a tree that stands takes as many before it
 // as its arity says, and one is left at the end.
@@ -54,7 +54,7 @@ pub(crate) fn put_part(bytes: &[u8], from: usize, size: usize, out: &mut [u8], a
     requires { PutPart (length bytes.now) from size (length out.old) at }
     ensures { out.new ≡ sets out.old at (take size (drop from bytes.now)) }
 {
-    out[at..at + size].copy_from_slice(&bytes[from..from + size]);
+    copy_slice(&mut out[at..at + size], &bytes[from..from + size]);
 }
 
 // A byte and two numbers: what stands before a pack's first node, and before a node's spelling.

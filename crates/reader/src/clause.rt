@@ -17,7 +17,7 @@ use crate::ops::roles_of;
 use crate::roles::{NO_ROLES, Roles};
 use lexer::{
     Cursor, Fault, Kind, LARGEST_MAGNITUDE, Refusal, Refused, Source, Token, TokenRead, Value,
-    is_valid, next_token, quoted_text,
+    copy_slice, is_valid, next_token, quoted_text,
 };
 
 // The nodes of a clause, and the cursor behind it.
@@ -282,8 +282,8 @@ fn more_tokens(
     requires { GoingOn text.now first.next first.mode held.now out.now frames.old nodes.old }
     ensures { result_of result frames.new nodes.new ≡ clause_run (most_tokens - few_tokens) few_tokens first.latest (state_of first.mode held.now out.now) text.now first.next }
 {
-    frames[..held.len()].copy_from_slice(held);
-    nodes[..out.len()].copy_from_slice(out);
+    copy_slice(&mut frames[..held.len()], held);
+    copy_slice(&mut nodes[..out.len()], out);
     take_tokens(text, first, FEW, MOST, frames, nodes)
 }
 

@@ -5,6 +5,7 @@ ghost use Rattle.reader.specs.Kinds.{kind_as};
 ghost use Rattle.reader.specs.Listing.{shape_of, last_separator, quoted_comma, spelling, word, front, back, Span, Spanned, put, put_before, Room, SpanRoom, SpannedRoom, NodeRoom, Node, own, own_all, shape_at, measured, Measurable, Rooted, root_at, SomeTerm, TermPut, SomeTerms, TermsPut, SomeListable, Lists};
 
 use crate::kinds::{KIND_UNIT, NodeKind};
+use lexer::copy_slice;
 
 // A text, and where its tokens start and end.
 #[derive(Clone, Copy)]
@@ -90,7 +91,7 @@ fn put_part(text: &[u8], from: usize, to: usize, out: &mut [u8]) -> usize
     ensures { put result out.new ≡ put_before (part from to text.now) (length out.old) out.old }
 {
     let place = out.len() - (to - from);
-    out[place..].copy_from_slice(&text[from..to]);
+    copy_slice(&mut out[place..], &text[from..to]);
     place
 }
 

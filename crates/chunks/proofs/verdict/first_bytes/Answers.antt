@@ -16,4 +16,4 @@ first_put s n y e =
     ∙ ap (λ (u : List ℕ). take n s ++ u) (drop-replicate (n - 0) 1028 unknown ∙ ap (λ (k : ℕ). replicate (1028 - k) unknown) m)
 
 pub returns : goal.returns
-returns c = first_put c.args.hand.now c.args.n c.copy_from_slice.new.self c.copy_from_slice.ensures.after
+returns c = first_put c.args.hand.now c.args.n c.copy_slice.new.to c.copy_slice.ensures.after

@@ -20,4 +20,4 @@ put bytes out from size at p h e =
     ∙ sym (append_assoc (take at out) q (drop (at + length q) out)) ∙ sym (sets-eq q out at (omega (arith, l, h.write)))
 
 pub returns : goal.returns
-returns c = put c.args.bytes.now c.args.out.now c.args.from c.args.size c.args.at c.copy_from_slice.new.self c.requires c.copy_from_slice.ensures.after
+returns c = put c.args.bytes.now c.args.out.now c.args.from c.args.size c.args.at c.copy_slice.new.to c.requires c.copy_slice.ensures.after
