@@ -1,7 +1,5 @@
-// The reader of chunks, and its answers as lines. The line before a text says how it is cut; it is read into steps, which are then taken one after another.
-ghost use Rattle.std.specs.Prelude.{◌≡◌, ◌+◌, ◌<◌, ◌≤◌, length};
-ghost use Rattle.probe.specs.declared.deliveries.TheConstants.{MOST_STEPS};
-
+// The reader of chunks, and its answers as lines. The line before a text says how it is cut. It is gone over twice, first for whether its items cut the text:
+// an array for its steps would have to be filled for each case.
 use crate::Malformed;
 use crate::answers::{refused_at_start, token_line};
 use crate::header::{Case, whole_number};
@@ -10,8 +8,6 @@ use chunks::{Phase, Reader, WINDOW};
 
 // The longest line of cuts, without its newline.
 const LONGEST_LINE: usize = 4096;
-// One for each byte of the line and one more, and three that stand in no line.
-const MOST_STEPS: usize = LONGEST_LINE + 4;
 // More calls than a chunk gets: each but the last takes a byte or hands out a token, and a text has less than 65,536 of either.
 const MOST_CALLS: usize = 2 * 65536;
 
@@ -22,109 +18,45 @@ pub enum Step<'a> {
     End,
 }
 
-// The steps so far, what they leave of the text, and whether the end is among them.
-#[derive(Drop)]
-pub struct Steps<'a> {
-    steps: [Step<'a>; MOST_STEPS],
-    count: usize,
+// What the items of a line so far leave of the text, and whether the end is among them.
+#[derive(Clone, Copy)]
+pub struct Cuts<'a> {
     left: &'a [u8],
     ended: bool,
-    ghost within: { count ≤ MOST_STEPS },
 }
 
-impl<'a> Steps<'a> {
-    fn new(text: &'a [u8]) -> Self
-        ensures { result.count ≡ 0 }
-    {
-        Steps {
-            steps: [Step::End; MOST_STEPS],
-            count: 0,
-            left: text,
-            ended: false,
+impl<'a> Cuts<'a> {
+    // Behind the end no empty chunk is fed.
+    fn length_step(&mut self, bytes: usize) -> Result<Option<Step<'a>>, Malformed> {
+        if self.ended && bytes == 0 {
+            return Ok(None);
         }
-    }
-
-    fn as_slice(&self) -> &[Step<'a>] {
-        &self.steps[..self.count]
-    }
-
-    fn push(&mut self, step: Step<'a>)
-        requires { self.old.count < MOST_STEPS }
-        ensures { self.new.count ≡ self.old.count + 1 }
-    {
-        self.steps[self.count] = step;
-        self.count += 1;
-    }
-
-    fn push_chunk(&mut self, bytes: usize) -> Result<(), Malformed>
-        requires { self.old.count < MOST_STEPS }
-        ensures { self.new.count ≤ self.old.count + 1 }
-    {
         let (chunk, left) = self.left.split_at_checked(bytes).ok_or(Malformed)?;
         self.left = left;
-        self.push(Step::Chunk(chunk));
-        Ok(())
+        Ok(Some(Step::Chunk(chunk)))
     }
 
-    fn push_end(&mut self)
-        requires { self.old.count < MOST_STEPS }
-        ensures { self.new.count ≡ self.old.count + 1 }
-    {
-        self.ended = true;
-        self.push(Step::End);
-    }
-
-    // Behind the end no empty chunk is fed.
-    fn push_length(&mut self, bytes: usize) -> Result<(), Malformed>
-        requires { self.old.count < MOST_STEPS }
-        ensures { self.new.count ≤ self.old.count + 1 }
-    {
-        if self.ended && bytes == 0 {
-            return Ok(());
-        }
-        self.push_chunk(bytes)
-    }
-
-    // A length, or `e`, which stands at most once.
-    fn push_item(&mut self, item: &[u8]) -> Result<(), Malformed>
-        requires { self.old.count < MOST_STEPS }
-        ensures { self.new.count ≤ self.old.count + 1 }
-    {
+    // The step of an item: a length, or `e`, which stands at most once.
+    fn step(&mut self, item: &[u8]) -> Result<Option<Step<'a>>, Malformed> {
         match item {
             [b'e'] if self.ended => Err(Malformed),
             [b'e'] => {
-                self.push_end();
-                Ok(())
+                self.ended = true;
+                Ok(Some(Step::End))
             }
-            _ => self.push_length(whole_number(item)?),
+            _ => self.length_step(whole_number(item)?),
         }
     }
 
-    // The items of a line.
-    fn push_items(&mut self, line: &[u8]) -> Result<(), Malformed>
-        requires { self.old.count + length line.now < MOST_STEPS }
-        ensures { self.new.count ≤ self.old.count + length line.now + 1 }
-    {
+    // Whether the items of the line, which stand apart by single spaces, cut the text.
+    fn look_through(mut self, line: &[u8]) -> Result<(), Malformed> {
         if line.is_empty() {
             return Ok(());
         }
         for item in line.split(|&b| b == b' ') {
-            self.push_item(item)?;
+            self.step(item)?;
         }
         Ok(())
-    }
-
-    // What is left is one more chunk, and the end is said behind it if it has not been. The last step asks for tokens until one is refused.
-    fn push_rest(&mut self) -> Result<(), Malformed>
-        requires { self.old.count + 3 ≤ MOST_STEPS }
-    {
-        if !self.left.is_empty() {
-            self.push_chunk(self.left.len())?;
-        }
-        if !self.ended {
-            self.push_end();
-        }
-        self.push_chunk(0)
     }
 }
 
@@ -193,11 +125,39 @@ impl Delivery {
         }
     }
 
-    fn take_steps(&mut self, out: &mut Output, steps: &[Step<'_>]) -> Result<(), Stopped> {
-        for &step in steps {
-            self.take_step(out, step)?;
+    // The steps of a line that was looked through.
+    fn take_items(
+        &mut self,
+        out: &mut Output,
+        cuts: &mut Cuts<'_>,
+        line: &[u8],
+    ) -> Result<(), Stopped> {
+        if line.is_empty() {
+            return Ok(());
+        }
+        for item in line.split(|&b| b == b' ') {
+            if let Ok(Some(step)) = cuts.step(item) {
+                self.take_step(out, step)?;
+            }
         }
         Ok(())
+    }
+
+    // What is left is one more chunk, and the end is said behind it if it has not been. The last step asks for tokens until one is refused.
+    fn take_rest(&mut self, out: &mut Output, cuts: Cuts<'_>) -> Result<(), Stopped> {
+        if !cuts.left.is_empty() {
+            self.take_step(out, Step::Chunk(cuts.left))?;
+        }
+        if !cuts.ended {
+            self.take_step(out, Step::End)?;
+        }
+        self.take_step(out, Step::Chunk(b""))
+    }
+
+    fn take_steps(&mut self, out: &mut Output, cuts: Cuts<'_>, line: &[u8]) -> Result<(), Stopped> {
+        let mut cuts = cuts;
+        self.take_items(out, &mut cuts, line)?;
+        self.take_rest(out, cuts)
     }
 }
 
@@ -211,10 +171,13 @@ pub(crate) fn deliver_case(out: &mut Output, case: Case<'_>) -> Result<(), Malfo
     if end > LONGEST_LINE {
         return Err(Malformed);
     }
-    let mut steps = Steps::new(&body[end + 1..]);
-    steps.push_items(&body[..end])?;
-    steps.push_rest()?;
+    let line = &body[..end];
+    let cuts = Cuts {
+        left: &body[end + 1..],
+        ended: false,
+    };
+    cuts.look_through(line)?;
     // the last step comes to a refusal
-    let _ = Delivery::new().take_steps(out, steps.as_slice());
+    let _ = Delivery::new().take_steps(out, cuts, line);
     Ok(())
 }
