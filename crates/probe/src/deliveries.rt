@@ -1,5 +1,4 @@
-// The reader of chunks, and its answers as lines. The line before a text says how it is cut. It is gone over twice, first for whether its items cut the text:
-// an array for its steps would have to be filled for each case.
+// The reader of chunks, and its answers as lines. The line before a text says how it is cut; it is read into lengths, which are then fed one after another.
 use crate::Malformed;
 use crate::answers::{refused_at_start, token_line};
 use crate::header::{Case, whole_number};
@@ -8,53 +7,52 @@ use chunks::{Phase, Reader, WINDOW};
 
 // The longest line of cuts, without its newline.
 const LONGEST_LINE: usize = 4096;
+// No line has more items. They are small numbers in an array of their own, since each case fills it; there is no heap.
+const MOST_ITEMS: usize = LONGEST_LINE + 1;
 // More calls than a chunk gets: each but the last takes a byte or hands out a token, and a text has less than 65,536 of either.
 const MOST_CALLS: usize = 2 * 65536;
 
-// A chunk is fed, or the sender says that the text has ended.
+// What the items of a line so far come to: how many chunks, behind how many of them the end is said, and how many bytes of the text they leave.
 #[derive(Clone, Copy)]
-pub enum Step<'a> {
-    Chunk(&'a [u8]),
-    End,
+pub struct Cuts {
+    count: usize,
+    end: Option<usize>,
+    left: usize,
 }
 
-// What the items of a line so far leave of the text, and whether the end is among them.
-#[derive(Clone, Copy)]
-pub struct Cuts<'a> {
-    left: &'a [u8],
-    ended: bool,
-}
-
-impl<'a> Cuts<'a> {
+impl Cuts {
     // Behind the end no empty chunk is fed.
-    fn length_step(&mut self, bytes: usize) -> Result<Option<Step<'a>>, Malformed> {
-        if self.ended && bytes == 0 {
-            return Ok(None);
+    fn push_length(&mut self, lengths: &mut [u32], bytes: usize) -> Result<(), Malformed> {
+        if self.end.is_some() && bytes == 0 {
+            return Ok(());
         }
-        let (chunk, left) = self.left.split_at_checked(bytes).ok_or(Malformed)?;
-        self.left = left;
-        Ok(Some(Step::Chunk(chunk)))
+        self.left = self.left.checked_sub(bytes).ok_or(Malformed)?;
+        // there is a place for each item
+        let place = lengths.get_mut(self.count).ok_or(Malformed)?;
+        *place = u32::try_from(bytes).map_err(|_| Malformed)?;
+        self.count = self.count.saturating_add(1);
+        Ok(())
     }
 
-    // The step of an item: a length, or `e`, which stands at most once.
-    fn step(&mut self, item: &[u8]) -> Result<Option<Step<'a>>, Malformed> {
+    // A length, or `e`, which stands at most once.
+    fn push_item(&mut self, lengths: &mut [u32], item: &[u8]) -> Result<(), Malformed> {
         match item {
-            [b'e'] if self.ended => Err(Malformed),
+            [b'e'] if self.end.is_some() => Err(Malformed),
             [b'e'] => {
-                self.ended = true;
-                Ok(Some(Step::End))
+                self.end = Some(self.count);
+                Ok(())
             }
-            _ => self.length_step(whole_number(item)?),
+            _ => self.push_length(lengths, whole_number(item)?),
         }
     }
 
-    // Whether the items of the line, which stand apart by single spaces, cut the text.
-    fn look_through(mut self, line: &[u8]) -> Result<(), Malformed> {
+    // The items of a line, which stand apart by single spaces.
+    fn push_items(&mut self, lengths: &mut [u32], line: &[u8]) -> Result<(), Malformed> {
         if line.is_empty() {
             return Ok(());
         }
         for item in line.split(|&b| b == b' ') {
-            self.step(item)?;
+            self.push_item(lengths, item)?;
         }
         Ok(())
     }
@@ -108,56 +106,52 @@ impl Delivery {
         if ended { asked } else { self.feed(out, b"") }
     }
 
-    fn take_step(&mut self, out: &mut Output, step: Step<'_>) -> Result<(), Stopped> {
-        match step {
-            Step::End => {
+    fn take_chunk(&mut self, out: &mut Output, chunk: &[u8]) -> Result<(), Stopped> {
+        let ended = matches!(self.reader.phase, Phase::Ended);
+        let fed = self.feed(out, chunk);
+        if fed.is_err() {
+            return self.ask_again(out, ended);
+        }
+        fed
+    }
+
+    // The sender says that the text has ended, if it does so behind as many chunks.
+    fn take_end(&mut self, cuts: Cuts, chunks: usize) {
+        if let Some(count) = cuts.end {
+            if count == chunks {
                 self.reader = chunks::finish(self.reader);
-                Ok(())
-            }
-            Step::Chunk(chunk) => {
-                let ended = matches!(self.reader.phase, Phase::Ended);
-                let fed = self.feed(out, chunk);
-                if fed.is_err() {
-                    return self.ask_again(out, ended);
-                }
-                fed
             }
         }
     }
 
-    // The steps of a line that was looked through.
-    fn take_items(
+    // What is left is one more chunk, and the end is said behind it if it has not been. The last chunk asks for tokens until one is refused.
+    fn take_rest(&mut self, out: &mut Output, cuts: Cuts, left: &[u8]) -> Result<(), Stopped> {
+        self.take_end(cuts, cuts.count);
+        if !left.is_empty() {
+            self.take_chunk(out, left)?;
+        }
+        if cuts.end.is_none() {
+            self.reader = chunks::finish(self.reader);
+        }
+        self.take_chunk(out, b"")
+    }
+
+    // The lengths that the cuts count, which leave as much of the text as the cuts say.
+    fn take_text(
         &mut self,
         out: &mut Output,
-        cuts: &mut Cuts<'_>,
-        line: &[u8],
+        cuts: Cuts,
+        lengths: &[u32],
+        text: &[u8],
     ) -> Result<(), Stopped> {
-        if line.is_empty() {
-            return Ok(());
+        let mut left = text;
+        for (i, &length) in lengths.iter().take(cuts.count).enumerate() {
+            self.take_end(cuts, i);
+            let (chunk, behind) = left.split_at_checked(length as usize).ok_or(Stopped)?;
+            self.take_chunk(out, chunk)?;
+            left = behind;
         }
-        for item in line.split(|&b| b == b' ') {
-            if let Ok(Some(step)) = cuts.step(item) {
-                self.take_step(out, step)?;
-            }
-        }
-        Ok(())
-    }
-
-    // What is left is one more chunk, and the end is said behind it if it has not been. The last step asks for tokens until one is refused.
-    fn take_rest(&mut self, out: &mut Output, cuts: Cuts<'_>) -> Result<(), Stopped> {
-        if !cuts.left.is_empty() {
-            self.take_step(out, Step::Chunk(cuts.left))?;
-        }
-        if !cuts.ended {
-            self.take_step(out, Step::End)?;
-        }
-        self.take_step(out, Step::Chunk(b""))
-    }
-
-    fn take_steps(&mut self, out: &mut Output, cuts: Cuts<'_>, line: &[u8]) -> Result<(), Stopped> {
-        let mut cuts = cuts;
-        self.take_items(out, &mut cuts, line)?;
-        self.take_rest(out, cuts)
+        self.take_rest(out, cuts, left)
     }
 }
 
@@ -171,13 +165,15 @@ pub(crate) fn deliver_case(out: &mut Output, case: Case<'_>) -> Result<(), Malfo
     if end > LONGEST_LINE {
         return Err(Malformed);
     }
-    let line = &body[..end];
-    let cuts = Cuts {
-        left: &body[end + 1..],
-        ended: false,
+    let text = &body[end + 1..];
+    let mut lengths = [0u32; MOST_ITEMS];
+    let mut cuts = Cuts {
+        count: 0,
+        end: None,
+        left: text.len(),
     };
-    cuts.look_through(line)?;
-    // the last step comes to a refusal
-    let _ = Delivery::new().take_steps(out, cuts, line);
+    cuts.push_items(&mut lengths, &body[..end])?;
+    // the last chunk comes to a refusal
+    let _ = Delivery::new().take_text(out, cuts, &lengths, text);
     Ok(())
 }
