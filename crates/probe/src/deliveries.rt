@@ -1,4 +1,7 @@
 // The reader of chunks, and its answers as lines. The line before a text says how it is cut; it is read into lengths, which are then fed one after another.
+ghost use Rattle.std.specs.Prelude.{◌≤◌};
+ghost use Rattle.probe.specs.declared.deliveries.TheConstants.{MOST_ITEMS};
+
 use crate::Malformed;
 use crate::answers::{refused_at_start, token_line};
 use crate::header::{Case, whole_number};
@@ -18,6 +21,7 @@ pub struct Cuts {
     count: usize,
     end: Option<usize>,
     left: usize,
+    ghost within: { count ≤ MOST_ITEMS },
 }
 
 impl Cuts {
@@ -27,10 +31,10 @@ impl Cuts {
             return Ok(());
         }
         self.left = self.left.checked_sub(bytes).ok_or(Malformed)?;
-        // there is a place for each item
+        // there is a place for each item: no line comes to this refusal, nor past the bound below
         let place = lengths.get_mut(self.count).ok_or(Malformed)?;
         *place = u32::try_from(bytes).map_err(|_| Malformed)?;
-        self.count = self.count.saturating_add(1);
+        self.count = (self.count + 1).min(MOST_ITEMS);
         Ok(())
     }
 
